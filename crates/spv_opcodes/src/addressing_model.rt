@@ -1,0 +1,3 @@
+// Addressing models.
+
+pub const LOGICAL: u32 = 0;

@@ -1,0 +1,3 @@
+// Capabilities.
+
+pub const SHADER: u32 = 1;

@@ -1,0 +1,3 @@
+// Execution models.
+
+pub const GL_COMPUTE: u32 = 5;

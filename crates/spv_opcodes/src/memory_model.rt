@@ -1,0 +1,3 @@
+// Memory models.
+
+pub const GLSL450: u32 = 1;
