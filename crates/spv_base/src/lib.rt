@@ -5,6 +5,7 @@ pub mod fault;
 pub mod header;
 pub mod id;
 pub mod lists;
+pub mod rule;
 
 pub use fault::{Fault, NoMemory, Refusal};
 pub use header::{Header, MAGIC, VERSION_1_6};

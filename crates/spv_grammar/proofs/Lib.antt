@@ -1,0 +1,2 @@
+pub mod OperandSteps
+pub mod Rows

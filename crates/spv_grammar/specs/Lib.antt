@@ -1,0 +1,5 @@
+pub mod Enumerants
+pub mod Table
+pub mod Text
+pub mod Operands
+pub mod Roles
