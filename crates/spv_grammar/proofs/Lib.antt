@@ -1,2 +1,3 @@
 pub mod OperandSteps
 pub mod Rows
+pub mod RoleCounts

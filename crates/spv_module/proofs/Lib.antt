@@ -1,0 +1,4 @@
+pub mod Ids
+pub mod Whole
+pub mod Spans
+pub mod Unbroken

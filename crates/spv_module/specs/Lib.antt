@@ -1,0 +1,10 @@
+pub mod Broken
+pub mod Code
+pub mod Decode
+pub mod First
+pub mod Inst
+pub mod Instruction
+pub mod Layout
+pub mod List
+pub mod View
+pub mod Reading

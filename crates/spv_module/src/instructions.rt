@@ -1,0 +1,42 @@
+ghost use Rattle.std.specs.Prelude.{◌≡◌, ◌≤◌, ◌<◌, ◌^◌, length, []};
+ghost use Rattle.spv_module.specs.Reading.{Front};
+
+use crate::list::InstList;
+use crate::rules::broken_rule;
+use crate::view::View;
+use spv_base::{Fault, NoMemory, Refusal, rule};
+use spv_grammar::kind::Role;
+use spv_grammar::operands::count_of;
+use std::alloc::Global;
+
+/// The number of words of the instruction in front of `words`, which stand at the place `at`. `roles`, which
+/// is to be empty, gets the part that each of its words plays. Refuses by the least rule that it breaks.
+fn front(
+    alloc: Global,
+    bound: u32,
+    at: u32,
+    words: &[u32],
+    roles: &mut Vec<Role>,
+) -> Result<usize, Fault>
+    requires some { 0 < length words.now }
+    requires empty { roles.old.items ≡ [] }
+    ensures { Front bound at words.now roles.new.items result }
+{
+    let count = usize::from(count_of(words[0]));
+    if count == 0 {
+        return Err(Fault::Refused(Refusal {
+            rule: rule::ZERO_COUNT,
+            at,
+        }));
+    }
+    if count > words.len() {
+        return Err(Fault::Refused(Refusal {
+            rule: rule::PAST_END,
+            at,
+        }));
+    }
+    match broken_rule(alloc, bound, &words[..count], roles)? {
+        Some(rule) => Err(Fault::Refused(Refusal { rule, at })),
+        None => Ok(count),
+    }
+}

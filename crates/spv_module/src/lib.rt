@@ -1,0 +1,16 @@
+//! Modules as lists of instructions: what `decode` reads of words and `encode` writes back.
+#![tactic(auto)]
+
+pub mod flat;
+pub mod inst;
+mod instructions;
+pub mod layout;
+pub mod list;
+mod pool;
+mod rules;
+pub mod view;
+
+pub use spv_base::{ByteList, Fault, Header, Id, NoMemory, Refusal, Words};
+pub use inst::Inst;
+pub use list::InstList;
+pub use view::View;

@@ -1,0 +1,90 @@
+ghost use Rattle.std.specs.Prelude.{◌≡◌, ◌<◌, ◌++◌, ◌∷◌, [], Some, length, slice_get, OnOk, OnErr};
+
+use crate::inst::Inst;
+use crate::pool::Pool;
+use crate::view::View;
+use spv_base::NoMemory;
+use std::alloc::Global;
+use std::marker::Model;
+
+/// Where an instruction of a list stands.
+#[derive(Clone, Copy, Debug)]
+pub struct Span {
+    /// The place of its first word in the module that it was read from, in words.
+    offset: u32,
+    /// Its words are those of the list from `start` up to `end`.
+    start: usize,
+    end: usize,
+}
+
+/// A list of instructions. It keeps their words one after the other.
+#[derive(Debug, Drop)]
+pub struct InstList {
+    pool: Pool,
+    spans: Vec<Span>,
+}
+
+impl Model for InstList {
+    ghost use Rattle.std.specs.Prelude.{List, map, All};
+    ghost use Rattle.spv_module.specs.Instruction.{Instruction};
+    ghost use Rattle.spv_module.specs.List.{instruction_at, IsSpan};
+
+    ghost Value = { List Instruction };
+    ghost view = { λ list. map (instruction_at list.pool.words.items) list.spans.items };
+    ghost invariant = { λ list. All (IsSpan list.pool.words.items list.pool.roles.items) list.spans.items };
+}
+
+impl InstList {
+    ghost use Rattle.spv_module.specs.View.{seen};
+    ghost use Rattle.spv_module.specs.Inst.{held};
+
+    /// The list with no instruction.
+    pub fn new(alloc: Global) -> InstList
+        ensures { result ≡ [] }
+    {
+        InstList {
+            pool: Pool::new(alloc),
+            spans: Vec::new(alloc),
+        }
+    }
+
+    /// Adds an instruction at the end. Where memory is wanting the list stays as it was.
+    pub fn push(&mut self, inst: Inst) -> Result<(), NoMemory>
+        ensures ok { OnOk result (self.new ≡ self.old ++ held inst ∷ []) }
+        ensures err { OnErr result (self.new ≡ self.old) }
+    {
+        self.push_view(inst.view())
+    }
+
+    /// Adds a copy of an instruction at the end. Where memory is wanting the list stays as it was.
+    pub fn push_view(&mut self, inst: View) -> Result<(), NoMemory>
+        ensures ok { OnOk result (self.new ≡ self.old ++ seen inst.entry ∷ []) }
+        ensures err { OnErr result (self.new ≡ self.old) }
+    {
+        self.spans.reserve(1)?;
+        let start = self.pool.count();
+        self.pool.append(inst)?;
+        self.spans.push(Span {
+            offset: inst.offset,
+            start,
+            end: self.pool.count(),
+        })?;
+        Ok(())
+    }
+
+    /// The number of instructions.
+    pub fn count(&self) -> usize
+        ensures { result ≡ length self.now }
+    {
+        self.spans.len()
+    }
+
+    /// The instruction at a place, counted from 0.
+    pub fn at(&self, k: usize) -> View<'_>
+        requires { k < length self.now }
+        ensures { slice_get self.now k ≡ Some (seen result) }
+    {
+        let span = self.spans[k];
+        self.pool.view(span.offset, span.start, span.end)
+    }
+}
