@@ -1,0 +1,10 @@
+pub mod Lists
+pub mod Traces
+pub mod Keeping
+pub mod Simulating
+pub mod Worlds
+pub mod Beside
+pub mod Schedules
+pub mod Chains
+pub mod Beginning
+pub mod Laws

@@ -1,0 +1,6 @@
+pub mod Machine
+pub mod Trace
+pub mod Keeps
+pub mod Loses
+pub mod Simulation
+pub mod Laws
