@@ -1,11 +1,11 @@
 -- One change of which accesses are kept begins a chain, and a chain leaves out accesses of its kind alone.
 use Rattle.std.proofs.Common.{◌≡◌, ℕ, zero, suc, Bool, true, false, cond, List, [], ◌∷◌, map, length, refl, sym, ap, ◌∙◌, subst}
 use Rattle.interleaving.specs.Machine.{Answer, Move, HasReturned, IsStuck, Goes, Stands}
-use Rattle.interleaving.specs.Trace.{TraceEnd, Returned, Asks, Runs, Stuck, Trace, Traces, ended, wanted, before, at_rest, in_motion, trace_of}
+use Rattle.interleaving.specs.Trace.{TraceEnd, Returned, Asks, Runs, Stuck, Trace, Traces, before, at_rest, in_motion, trace_of}
 use Rattle.interleaving.specs.Keeps.{without, Alike, LastKept, IsOver, KeptBut, Keeps}
-use Rattle.interleaving.specs.Loses.{marks_of, LastIs, AllMarked, WantsOf, Loses, AreTraces}
-use Rattle.interleaving.proofs.Lists.{Filled, alike_self, last_mark, behind_last, filled_map}
-use Rattle.interleaving.proofs.Traces.{are_traces, trace_full, same_trace}
+use Rattle.interleaving.specs.Loses.{marks_of, LastIs, AllMarked, WantsOf, Loses}
+use Rattle.interleaving.proofs.Lists.{Filled, alike_self, last_mark, behind_last}
+use Rattle.interleaving.proofs.Traces.{trace_full, same_trace}
 use Rattle.interleaving.proofs.Keeping.{over_not_runs}
 
 -- a list of some length has an element

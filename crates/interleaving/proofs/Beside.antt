@@ -1,12 +1,12 @@
 -- Two worlds beside each other: the one relation that the law over schedules keeps.
-use Rattle.std.proofs.Common.{◌≡◌, ℕ, zero, suc, ◌+◌, ◌<◌, ◌≤◌, Bool, true, false, cond, not, ◌&&◌, ◌||◌, ◌⊎◌, inl, inr, List, [], ◌∷◌, ◌++◌, ◌==◌, refl, sym, ap, ◌∙◌, subst, arith}
-use Rattle.interleaving.specs.Machine.{Answer, Move, HasReturned, IsStuck, Goes, Stands, Program, Effects, World, put, all_wait, waits_after, gone, accessed, step, first_world, Run, SomeStep, NoStep, AllReturned, Within}
+use Rattle.std.proofs.Common.{◌≡◌, ℕ, zero, suc, ◌<◌, ◌≤◌, Bool, true, false, cond, not, ◌&&◌, List, [], ◌∷◌, ◌++◌, ◌==◌, refl, sym, ap, ◌∙◌, subst, arith}
+use Rattle.interleaving.specs.Machine.{Answer, HasReturned, Goes, Stands, Program, Effects, World, put, all_wait, waits_after, gone, accessed, first_world, Run, AllReturned}
 use Rattle.interleaving.specs.Trace.{trace_of}
 use Rattle.interleaving.specs.Keeps.{Keeps}
-use Rattle.interleaving.specs.Simulation.{Comes, ComesTo}
+use Rattle.interleaving.specs.Simulation.{Comes}
 use Rattle.interleaving.specs.Laws.{Suits}
-use Rattle.interleaving.proofs.Keeping.{StandsBefore, IsCalm, comes_calm, keeps_goes, keeps_left_out, keeps_other_goes, keeps_both, keeps_access, keeps_return}
-use Rattle.interleaving.proofs.Worlds.{put_one, put_both, put_here, IsFree, step_goes, step_stands, returned_stops, run_compose, below_or_at}
+use Rattle.interleaving.proofs.Keeping.{keeps_goes, keeps_left_out, keeps_other_goes, keeps_both, keeps_return}
+use Rattle.interleaving.proofs.Worlds.{put_one, put_both, put_here, IsFree, step_goes, run_compose, below_or_at}
 
 -- who waits, by the workgroups and their number
 abbrev waits_by : (ℕ → ℕ) → ℕ → (ℕ → Bool) → ℕ → ℕ → Bool

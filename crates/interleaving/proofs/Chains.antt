@@ -1,12 +1,10 @@
 -- Accesses kept through two changes, and how one change begins a chain.
-use Rattle.std.proofs.Common.{◌≡◌, ℕ, zero, suc, ◌+◌, Bool, true, false, cond, ◌||◌, ◌⊎◌, inl, inr, List, [], ◌∷◌, ◌++◌, map, length, refl, sym, ap, ◌∙◌, subst}
-use Rattle.interleaving.specs.Machine.{Answer, Move, HasReturned, IsStuck, Goes, Stands}
-use Rattle.interleaving.specs.Trace.{TraceEnd, Returned, Asks, Runs, Stuck, Trace, Traces, ended, wanted, before, at_rest, in_motion, trace_of}
-use Rattle.interleaving.specs.Keeps.{without, Alike, LastKept, IsOver, KeptBut, Keeps}
+use Rattle.std.proofs.Common.{◌≡◌, ℕ, Bool, true, false, ◌||◌, ◌⊎◌, inl, inr, List, ◌++◌, refl, sym, ap, ◌∙◌, subst}
+use Rattle.interleaving.specs.Machine.{Answer}
+use Rattle.interleaving.specs.Trace.{TraceEnd, Returned, Asks, Runs, Stuck, Traces}
+use Rattle.interleaving.specs.Keeps.{without, Alike, IsOver}
 use Rattle.interleaving.specs.Loses.{marks_of, LastIs, WantsOf, Loses, AreTraces}
-use Rattle.interleaving.proofs.Lists.{Filled, without_nothing, alike_without, alike_compose, alike_self, last_back, last_stays, joined, without_joined, length_marks, last_mark, mark_last, same_marks, without_begins, either, marks_joined, filled_map}
-use Rattle.interleaving.proofs.Traces.{are_traces, trace_full, trace_goes, trace_answered, trace_wants}
-use Rattle.interleaving.proofs.Keeping.{over_not_runs}
+use Rattle.interleaving.proofs.Lists.{alike_without, alike_compose, last_back, last_stays, joined, without_joined, length_marks, last_mark, mark_last, same_marks, without_begins, either, marks_joined}
 
 -- what a mark asks of an end
 not_runs : (end : TraceEnd) → end ≡ Asks → end ≡ Runs → ⊥

@@ -1,10 +1,10 @@
 -- Accesses kept: what is known of the next move, and what stays true behind it.
-use Rattle.std.proofs.Common.{◌≡◌, ℕ, zero, suc, Bool, true, false, cond, length, List, [], ◌∷◌, map, refl, sym, ap, ◌∙◌, subst}
+use Rattle.std.proofs.Common.{◌≡◌, ℕ, zero, suc, Bool, true, false, length, List, [], ◌∷◌, map, refl, sym, ap, ◌∙◌, subst}
 use Rattle.interleaving.specs.Machine.{Answer, Move, HasReturned, IsStuck, Goes, Stands}
 use Rattle.interleaving.specs.Trace.{TraceEnd, Returned, Asks, Runs, Stuck, Trace, Traces, ended, wanted, before, at_rest, in_motion, trace_of}
-use Rattle.interleaving.specs.Keeps.{without, Alike, LastKept, IsOver, KeptBut, Keeps}
-use Rattle.interleaving.specs.Simulation.{Comes, ComesTo, Meets}
-use Rattle.interleaving.proofs.Traces.{trace_goes, trace_answered, trace_wants, trace_returned, trace_stuck, trace_at_goes, trace_at_answered, trace_full}
+use Rattle.interleaving.specs.Keeps.{without, Alike, IsOver, KeptBut, Keeps}
+use Rattle.interleaving.specs.Simulation.{Comes, ComesTo}
+use Rattle.interleaving.proofs.Traces.{trace_goes, trace_answered, trace_wants, trace_returned, trace_at_goes, trace_at_answered, trace_full}
 use Rattle.interleaving.proofs.Lists.{Filled, filled_map}
 
 -- the end of what is over is not that more instructions are wanted

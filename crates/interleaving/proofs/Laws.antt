@@ -1,6 +1,5 @@
 -- The laws, each from its proof.
-use Rattle.std.proofs.Common.{◌≡◌}
-use Rattle.interleaving.specs.Laws.{Suits, SameFinals, TwoPrograms, ScheduleLaw, ThreePrograms, FinalsChain, ThreeTraces, AccessChain, OneChange, ChainBegins, LeftOutAreOfKind, TwoMachines, SimulationLaw, TwoSides, KeepsBetween, OneMachine, TraceLaw}
+use Rattle.interleaving.specs.Laws.{TwoPrograms, ScheduleLaw, ThreePrograms, FinalsChain, ThreeTraces, AccessChain, OneChange, ChainBegins, LeftOutAreOfKind, TwoMachines, SimulationLaw, TwoSides, KeepsBetween, OneMachine, TraceLaw}
 use Rattle.interleaving.proofs.Traces.{are_traces}
 use Rattle.interleaving.proofs.Simulating.{simulation_keeps, keeps_between}
 use Rattle.interleaving.proofs.Schedules.{schedules}

@@ -8,3 +8,5 @@ pub mod Schedules
 pub mod Chains
 pub mod Beginning
 pub mod Laws
+pub mod Exploring
+pub mod Example

@@ -1,5 +1,5 @@
 -- Lists with marks, and lists that are alike.
-use Rattle.std.proofs.Common.{◌≡◌, ℕ, zero, suc, ◌+◌, Bool, true, false, cond, ◌||◌, List, [], ◌∷◌, ◌++◌, map, length, refl, sym, ap, ◌∙◌, subst}
+use Rattle.std.proofs.Common.{◌≡◌, ℕ, suc, Bool, true, false, cond, ◌||◌, List, [], ◌∷◌, ◌++◌, map, length, refl, sym, ap, ◌∙◌, subst}
 use Rattle.std.proofs.Math.Nat.{suc_inj}
 use Rattle.interleaving.specs.Machine.{Answer}
 use Rattle.interleaving.specs.Keeps.{without, Alike, LastKept}

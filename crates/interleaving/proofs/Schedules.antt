@@ -1,7 +1,7 @@
 -- The law over schedules.
-use Rattle.std.proofs.Common.{◌≡◌, ℕ, zero, suc, ◌+◌, ◌<◌, ◌≤◌, Bool, true, false, cond, not, ◌&&◌, ◌⊎◌, inl, inr, List, [], ◌∷◌, ◌++◌, Option, Some, None, ◌==◌, nat_lt, refl, sym, ap, ◌∙◌, subst, arith}
+use Rattle.std.proofs.Common.{◌≡◌, ℕ, zero, suc, ◌<◌, Bool, true, false, ◌⊎◌, inl, inr, List, [], ◌∷◌, ◌++◌, Option, Some, None, nat_lt, refl, sym, ap, ◌∙◌, subst, arith}
 use Rattle.std.proofs.Math.Nat.{suc_inj}
-use Rattle.interleaving.specs.Machine.{Answer, Move, HasReturned, IsStuck, Goes, Stands, Program, Effects, World, put, gone, accessed, moved, step, first_world, Run, SomeStep, NoStep, AllReturned, Within, Ends, Finals}
+use Rattle.interleaving.specs.Machine.{Answer, Move, HasReturned, IsStuck, Goes, Stands, Program, Effects, World, put, gone, accessed, moved, step, first_world, Run, SomeStep, NoStep, AllReturned, Within, Ends}
 use Rattle.interleaving.specs.Trace.{trace_of}
 use Rattle.interleaving.specs.Keeps.{Keeps}
 use Rattle.interleaving.specs.Simulation.{Comes, ComesTo}

@@ -1,9 +1,9 @@
 -- How accesses are shown to be kept: from the end of a trace to its start, one move at a time.
-use Rattle.std.proofs.Common.{◌≡◌, ℕ, zero, suc, Bool, true, false, cond, length, List, [], ◌∷◌, map, refl, sym, ap, ◌∙◌, subst}
+use Rattle.std.proofs.Common.{◌≡◌, ℕ, zero, suc, Bool, true, false, List, [], ◌∷◌, map, refl, sym, ap, ◌∙◌, subst}
 use Rattle.interleaving.specs.Machine.{Answer, Move, HasReturned, IsStuck, Goes, Stands}
-use Rattle.interleaving.specs.Trace.{TraceEnd, Returned, Asks, Runs, Stuck, Trace, Traces, ended, wanted, before, at_rest, in_motion, trace_of}
-use Rattle.interleaving.specs.Keeps.{without, Alike, LastKept, IsOver, KeptBut, Keeps}
-use Rattle.interleaving.specs.Simulation.{Comes, ComesTo, Meets, Simulation, Shows}
+use Rattle.interleaving.specs.Trace.{Returned, Runs, Trace, Traces, ended, wanted, before, at_rest, in_motion, trace_of}
+use Rattle.interleaving.specs.Keeps.{without, Alike, KeptBut, Keeps}
+use Rattle.interleaving.specs.Simulation.{Comes, Simulation, Shows}
 use Rattle.interleaving.proofs.Traces.{trace_goes, trace_answered, trace_wants, trace_returned}
 use Rattle.interleaving.proofs.Keeping.{over_not_runs, over_behind}
 

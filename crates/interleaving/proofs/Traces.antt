@@ -1,9 +1,8 @@
 -- Traces: how they follow a step, and what holds of those of each machine.
-use Rattle.std.proofs.Common.{◌≡◌, ℕ, zero, suc, ◌+◌, zero-add, suc-add, add_comm, Bool, true, false, ◌⊎◌, inl, inr, List, [], ◌∷◌, ◌++◌, length, refl, sym, ap, ◌∙◌, subst}
+use Rattle.std.proofs.Common.{◌≡◌, ℕ, zero, suc, ◌+◌, zero-add, suc-add, add_comm, ◌⊎◌, inl, inr, List, [], ◌∷◌, ◌++◌, length, refl, sym, ap, ◌∙◌}
 use Rattle.interleaving.specs.Machine.{Answer, Move, HasReturned, IsStuck, Goes, Stands}
-use Rattle.interleaving.specs.Trace.{TraceEnd, Returned, Asks, Runs, Stuck, Trace, Traces, ended, wanted, before, at_rest, in_motion, trace_of}
+use Rattle.interleaving.specs.Trace.{Returned, Asks, Runs, Stuck, Trace, ended, wanted, before, at_rest, in_motion, trace_of}
 use Rattle.interleaving.specs.Loses.{AreTraces}
-use Rattle.interleaving.proofs.Lists.{Filled}
 
 -- a private step costs one instruction
 pub trace_goes : {S A : Type 0} (look : S → Move S A) (s v : S) (n : ℕ) (xs : List Answer) → look s ≡ Goes v → trace_of look s (suc n) xs ≡ trace_of look v n xs

@@ -1,7 +1,7 @@
 -- Worlds: what a step is, who waits after it, and search among the invocations.
-use Rattle.std.proofs.Common.{◌≡◌, ℕ, zero, suc, ◌+◌, ◌<◌, ◌≤◌, Bool, true, false, cond, not, ◌&&◌, ◌||◌, ◌⊎◌, inl, inr, List, [], ◌∷◌, ◌++◌, Option, Some, None, ◌==◌, nat_lt, refl, sym, ap, ◌∙◌, subst, zero-add, suc-add, add_comm, arith}
+use Rattle.std.proofs.Common.{◌≡◌, ℕ, zero, suc, ◌+◌, ◌<◌, ◌≤◌, Bool, true, false, cond, not, ◌&&◌, ◌⊎◌, inl, inr, List, [], ◌∷◌, ◌++◌, Option, Some, None, ◌==◌, nat_lt, refl, sym, ap, ◌∙◌, subst, zero-add, suc-add, add_comm, arith}
 use Rattle.std.proofs.lemmas.Bool.Decides.{nat_tests}
-use Rattle.interleaving.specs.Machine.{Answer, Move, HasReturned, IsStuck, Goes, Stands, Program, Effects, World, put, all_wait, waits_after, gone, accessed, moved, step, Run, SomeStep, NoStep, AllReturned, Within}
+use Rattle.interleaving.specs.Machine.{Answer, Move, HasReturned, IsStuck, Goes, Stands, Program, Effects, World, put, gone, accessed, moved, step, Run, NoStep, AllReturned, Within}
 
 -- tests of numbers
 pub lt_true : (i n : ℕ) → nat_lt i n ≡ true → i < n
@@ -10,7 +10,7 @@ lt_true i n e = grind (arith, nat_tests)
 pub true_lt : (i n : ℕ) → i < n → nat_lt i n ≡ true
 true_lt i n e = grind (arith, nat_tests)
 
-eq_true : (i j : ℕ) → (i == j) ≡ true → i ≡ j
+pub eq_true : (i j : ℕ) → (i == j) ≡ true → i ≡ j
 eq_true i j e = grind (arith, nat_tests)
 
 self_true : (i : ℕ) → (i == i) ≡ true

@@ -1,5 +1,5 @@
 -- One invocation keeps the accesses of another, up to a relation and but for accesses that are left out.
-use Rattle.std.specs.Prelude.{◌≡◌, ℕ, Bool, true, false, cond, List, [], ◌∷◌, map}
+use Rattle.std.specs.Prelude.{◌≡◌, ℕ, Bool, false, cond, List, [], ◌∷◌, map}
 use Rattle.interleaving.specs.Machine.{Answer}
 use Rattle.interleaving.specs.Trace.{TraceEnd, Returned, Asks, Runs, Stuck, Trace, Traces}
 

@@ -1,5 +1,5 @@
 -- The laws, as statements.
-use Rattle.std.specs.Prelude.{◌≡◌, ℕ, ◌<◌, Bool, true, false, ◌⊎◌, List}
+use Rattle.std.specs.Prelude.{◌≡◌, ℕ, ◌<◌, Bool, true, false, List}
 use Rattle.interleaving.specs.Machine.{Answer, Move, Program, Effects, Ends, Finals}
 use Rattle.interleaving.specs.Trace.{Runs, Traces, trace_of}
 use Rattle.interleaving.specs.Keeps.{Keeps}

@@ -4,3 +4,4 @@ pub mod Keeps
 pub mod Loses
 pub mod Simulation
 pub mod Laws
+pub mod Example

@@ -1,7 +1,7 @@
 -- Accesses kept through a list of changes: what is left out is told by the answers before it.
 use Rattle.std.specs.Prelude.{◌≡◌, ℕ, suc, Bool, true, ◌⊎◌, List, [], ◌∷◌, ◌++◌, length}
 use Rattle.interleaving.specs.Machine.{Answer}
-use Rattle.interleaving.specs.Trace.{TraceEnd, Asks, Runs, Traces}
+use Rattle.interleaving.specs.Trace.{Asks, Runs, Traces}
 use Rattle.interleaving.specs.Keeps.{KeptBut}
 
 -- a mark for the access behind each number of these answers, from none to all

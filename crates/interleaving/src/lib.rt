@@ -8,6 +8,11 @@
 
 ghost use Rattle.interleaving.specs.Laws.{TwoPrograms, ThreePrograms, ThreeTraces, OneChange, TwoMachines, TwoSides, OneMachine};
 ghost use Rattle.interleaving.specs.Laws.{ScheduleLaw, FinalsChain, AccessChain, ChainBegins, LeftOutAreOfKind, SimulationLaw, KeepsBetween, TraceLaw};
+ghost use Rattle.std.specs.Prelude.{◌≡◌, ℕ, ◌==◌, ◌&&◌, not, ◌⊎◌, List, [], ◌∷◌, is_none};
+ghost use Rattle.interleaving.specs.Machine.{step, Ends, Finals};
+ghost use Rattle.interleaving.specs.Trace.{Returned, Asks, Runs, Stuck, ended, wanted, trace_of};
+ghost use Rattle.interleaving.specs.Laws.{SameFinals};
+ghost use Rattle.interleaving.specs.Example.{Act, Load, Exchange, Add, Barrier, Skip, Spin, Makes, Copy, Trap, look, one_workgroup, two_workgroups, doing, drop_unread, Leads, KeepsRead};
 
 /// Two programs and the effects of their accesses.
 pub trait ProgramPair {
@@ -81,4 +86,45 @@ pub fn keeps_between<A: Accounts>()
 /// A trace that is over does not change with more instructions, and not with more answers where none is asked.
 pub fn trace_law<M: Machine>()
     ensures { TraceLaw M.machine }
+{}
+
+/// Facts of two invocations, each with a list of things to do, and one word of memory.
+pub fn facts_of_schedules()
+    ensures barrier_ends { Ends one_workgroup (doing (Makes Barrier ∷ []) (Makes Barrier ∷ [])) }
+    ensures barrier_waits { let p = doing (Makes Barrier ∷ []) (Makes Barrier ∷ []) in Leads one_workgroup p (0 ∷ []) (λ w. w.waits 0 && is_none (step one_workgroup p w 0)) }
+    ensures barrier_releases { Leads one_workgroup (doing (Makes Barrier ∷ []) (Makes Barrier ∷ [])) (0 ∷ 1 ∷ []) (λ w. not (w.waits 0) && not (w.waits 1)) }
+    ensures waits_for_ever { ¬ (Ends one_workgroup (doing [] (Makes Barrier ∷ []))) }
+    ensures own_workgroup { Ends two_workgroups (doing [] (Makes Barrier ∷ [])) }
+    ensures ordered { (m : ℕ) → Finals one_workgroup (doing (Makes (Exchange 1) ∷ Makes Barrier ∷ []) (Makes Barrier ∷ Makes (Exchange 2) ∷ [])) m → m ≡ 2 }
+    ensures trap { ¬ (Ends one_workgroup (doing (Trap ∷ []) [])) }
+    ensures spin { ¬ (Ends one_workgroup (doing (Spin ∷ []) [])) }
+    ensures exchanges_end { (m : ℕ) → Finals one_workgroup (doing (Makes (Exchange 1) ∷ []) (Makes (Exchange 2) ∷ [])) m → (m ≡ 1) ⊎ (m ≡ 2) }
+    ensures exchange_first { Finals one_workgroup (doing (Makes (Exchange 1) ∷ []) (Makes (Exchange 2) ∷ [])) 1 }
+    ensures exchange_last { Finals one_workgroup (doing (Makes (Exchange 1) ∷ []) (Makes (Exchange 2) ∷ [])) 2 }
+    ensures additions { (m : ℕ) → Finals one_workgroup (doing (Makes (Add 1) ∷ []) (Makes (Add 2) ∷ [])) m → m ≡ 3 }
+    ensures lost_exchange { Finals one_workgroup (doing (Copy ∷ []) (Makes (Exchange 5) ∷ [])) 0 }
+{}
+
+/// Facts of traces: what ends one within no instruction, and what costs an instruction.
+pub fn facts_of_traces()
+    ensures returned { trace_of look [] 0 [] ≡ ended Returned }
+    ensures stuck { trace_of look (Trap ∷ []) 0 [] ≡ ended Stuck }
+    ensures asks { trace_of look (Makes Barrier ∷ []) 0 [] ≡ wanted Barrier }
+    ensures runs { trace_of look (Skip ∷ []) 0 [] ≡ ended Runs }
+    ensures answer_costs { trace_of look (Makes Barrier ∷ []) 0 ([] ∷ []) ≡ ended Runs }
+    ensures last { trace_of look (Makes (Exchange 1) ∷ Makes Barrier ∷ []) 1 ((0 ∷ []) ∷ []) ≡ record { accesses = Exchange 1 ∷ Barrier ∷ []; end = Asks } }
+    ensures answer_is_read { trace_of look (Copy ∷ []) 2 ((7 ∷ []) ∷ [] ∷ []) ≡ record { accesses = Load 1 ∷ Exchange 7 ∷ []; end = Returned } }
+    ensures spin_runs { (n : ℕ) → trace_of look (Spin ∷ []) n [] ≡ ended Runs }
+{}
+
+/// Facts of accesses kept: unread loads may go, and the law over schedules applies where they do; nothing else may be
+/// dropped, added or moved.
+pub fn facts_of_keeping()
+    ensures drops_unread { (acts : List Act) → KeepsRead acts (drop_unread acts) }
+    ensures law_applies { (a b : List Act) → Ends one_workgroup (doing a b) → SameFinals one_workgroup (doing a b) one_workgroup (doing (drop_unread a) (drop_unread b)) (λ m n. m ≡ n) }
+    ensures barrier_is_kept { ¬ (KeepsRead (Makes Barrier ∷ []) []) }
+    ensures exchange_is_kept { ¬ (KeepsRead (Makes (Exchange 1) ∷ []) []) }
+    ensures read_load_is_kept { ¬ (KeepsRead (Copy ∷ []) []) }
+    ensures nothing_is_added { ¬ (KeepsRead [] (Makes (Exchange 1) ∷ [])) }
+    ensures order_is_kept { ¬ (KeepsRead (Makes (Exchange 1) ∷ Makes (Exchange 2) ∷ []) (Makes (Exchange 2) ∷ Makes (Exchange 1) ∷ [])) }
 {}
