@@ -70,6 +70,13 @@ FinalsChain c =
     SameFinals c.effects2 c.program2 c.effects3 c.program3 c.Near23 →
     SameFinals c.effects1 c.program1 c.effects3 c.program3 c.Near13
 
+-- and where nothing is changed
+abbrev pub FinalsOfNone : ThreePrograms → Type 0
+FinalsOfNone c =
+    ((m : c.M) → c.Near12 m m) →
+    Ends c.effects1 c.program1 →
+    SameFinals c.effects1 c.program1 c.effects1 c.program1 c.Near12
+
 -- three invocations, what is left out of the first and of the second, and what is to be kept from each to the next
 pub record ThreeTraces : Type 1 where
   pub A : Type 0
@@ -92,6 +99,10 @@ AccessChain c =
     Loses c.Kind1 c.Same12 c.traces1 c.traces2 →
     Loses c.Kind2 c.Same23 c.traces2 c.traces3 →
     Loses c.Kind1 c.Same13 c.traces1 c.traces3
+
+-- and where nothing is changed
+abbrev pub AccessesOfNone : ThreeTraces → Type 0
+AccessesOfNone c = ((x : c.A) → c.Same12 x x) → Loses c.Kind1 c.Same12 c.traces1 c.traces1
 
 -- one state, the traces beside it, and what is left out and to be kept
 pub record OneChange : Type 1 where

@@ -5,3 +5,4 @@ pub mod Loses
 pub mod Simulation
 pub mod Laws
 pub mod Example
+pub mod Small

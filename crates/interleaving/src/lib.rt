@@ -7,12 +7,13 @@
 #![tactic(auto)]
 
 ghost use Rattle.interleaving.specs.Laws.{TwoPrograms, ThreePrograms, ThreeTraces, OneChange, TwoMachines, TwoSides, OneMachine};
-ghost use Rattle.interleaving.specs.Laws.{ScheduleLaw, FinalsChain, AccessChain, ChainBegins, LeftOutAreOfKind, SimulationLaw, KeepsBetween, TraceLaw};
+ghost use Rattle.interleaving.specs.Laws.{ScheduleLaw, FinalsChain, FinalsOfNone, AccessChain, AccessesOfNone, ChainBegins, LeftOutAreOfKind, SimulationLaw, KeepsBetween, TraceLaw};
 ghost use Rattle.std.specs.Prelude.{◌≡◌, ℕ, ◌==◌, ◌&&◌, not, ◌⊎◌, List, [], ◌∷◌, is_none};
 ghost use Rattle.interleaving.specs.Machine.{step, Ends, Finals};
 ghost use Rattle.interleaving.specs.Trace.{Returned, Asks, Runs, Stuck, ended, wanted, trace_of};
 ghost use Rattle.interleaving.specs.Laws.{SameFinals};
 ghost use Rattle.interleaving.specs.Example.{Act, Load, Exchange, Add, Barrier, Skip, Spin, Makes, Copy, Trap, look, one_workgroup, two_workgroups, doing, drop_unread, Leads, KeepsRead};
+ghost use Rattle.interleaving.specs.Small.{two_programs, three_programs, three_traces, one_change, two_machines, two_sides, one_machine};
 
 /// Two programs and the effects of their accesses.
 pub trait ProgramPair {
@@ -49,6 +50,37 @@ pub trait Machine {
     ghost machine: { OneMachine };
 }
 
+/// The small machine, on which the definitions are tried: each law stands of it too.
+pub struct Small;
+
+impl ProgramPair for Small {
+    ghost programs = { two_programs };
+}
+
+impl ProgramTriple for Small {
+    ghost programs = { three_programs };
+}
+
+impl TraceTriple for Small {
+    ghost traces = { three_traces };
+}
+
+impl Change for Small {
+    ghost change = { one_change };
+}
+
+impl MachinePair for Small {
+    ghost machines = { two_machines };
+}
+
+impl Accounts for Small {
+    ghost sides = { two_sides };
+}
+
+impl Machine for Small {
+    ghost machine = { one_machine };
+}
+
 /// The law over schedules: where alike accesses do alike to alike memories, left-out accesses change nothing and are no
 /// barriers, and each invocation of the second program keeps the accesses of the first, then, if every schedule of the
 /// first returns, so does every schedule of the second, and their final memories are the same up to alikeness.
@@ -58,12 +90,14 @@ pub fn schedule_law<P: ProgramPair>()
 
 /// Final memories compose, step by step.
 pub fn finals_chain<P: ProgramTriple>()
-    ensures { FinalsChain P.programs }
+    ensures chain { FinalsChain P.programs }
+    ensures none { FinalsOfNone P.programs }
 {}
 
 /// Accesses kept by each of two neighbours are kept by both, where what is left out is told by the answers before it.
 pub fn access_chain<T: TraceTriple>()
-    ensures { AccessChain T.traces }
+    ensures chain { AccessChain T.traces }
+    ensures none { AccessesOfNone T.traces }
 {}
 
 /// One change whose left-out accesses are told by a test begins such a chain; what a chain leaves out of a trace is of
@@ -128,3 +162,22 @@ pub fn facts_of_keeping()
     ensures nothing_is_added { ¬ (KeepsRead [] (Makes (Exchange 1) ∷ [])) }
     ensures order_is_kept { ¬ (KeepsRead (Makes (Exchange 1) ∷ Makes (Exchange 2) ∷ []) (Makes (Exchange 2) ∷ Makes (Exchange 1) ∷ [])) }
 {}
+
+/// The laws at the small machine, as a caller gets them from their contracts.
+pub fn laws_of_small()
+    ensures schedules { ScheduleLaw two_programs }
+    ensures finals { FinalsChain three_programs }
+    ensures accesses { AccessChain three_traces }
+    ensures begins { ChainBegins one_change }
+    ensures simulation { SimulationLaw two_machines }
+    ensures between { KeepsBetween two_sides }
+    ensures traces { TraceLaw one_machine }
+{
+    schedule_law::<Small>();
+    finals_chain::<Small>();
+    access_chain::<Small>();
+    chain_begins::<Small>();
+    simulation::<Small>();
+    keeps_between::<Small>();
+    trace_law::<Small>();
+}
