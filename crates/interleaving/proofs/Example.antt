@@ -1,12 +1,12 @@
 -- Facts of the small machine.
-use Rattle.std.proofs.Common.{◌≡◌, ℕ, zero, suc, ◌<◌, Bool, true, false, not, ◌&&◌, ◌||◌, ◌==◌, ◌⊎◌, inl, inr, is_none, Some, List, [], ◌∷◌, refl, sym, ap, ◌∙◌, subst, arith}
-use Rattle.interleaving.specs.Machine.{Answer, HasReturned, Goes, Stands, Program, Effects, World, gone, step, first_world, Within, Ends, Finals}
+use Rattle.std.proofs.Common.{◌≡◌, ℕ, zero, suc, ◌<◌, Bool, true, false, cond, not, ◌&&◌, ◌||◌, ◌==◌, ◌⊎◌, inl, inr, is_none, Some, List, [], ◌∷◌, refl, sym, ap, ◌∙◌, subst, arith}
+use Rattle.interleaving.specs.Machine.{Answer, HasReturned, Goes, Stands, Program, Effects, World, gone, accessed, step, first_world, Within, Ends, Finals}
 use Rattle.interleaving.specs.Trace.{Returned, Runs, ended, trace_of}
 use Rattle.interleaving.specs.Keeps.{Alike, Keeps}
 use Rattle.interleaving.specs.Simulation.{ComesTo, Meets, Simulation}
 use Rattle.interleaving.specs.Laws.{Suits, SameFinals}
-use Rattle.interleaving.specs.Example.{Access, Load, Exchange, Add, Barrier, Act, Skip, Spin, Makes, Copy, Trap, first_word, look, one_workgroup, two_workgroups, doing, is_unread, drop_unread, Leads, KeepsRead}
-use Rattle.interleaving.proofs.Worlds.{put_here, IsFree, step_goes, eq_true}
+use Rattle.interleaving.specs.Example.{Access, Load, Exchange, Add, Barrier, Act, Skip, Spin, Makes, Copy, Swap, Await, Trap, first_word, look, one_workgroup, two_workgroups, two_and_one, doing, is_unread, drop_unread, Leads, KeepsRead}
+use Rattle.interleaving.proofs.Worlds.{put_here, IsFree, step_goes, step_stands, eq_true}
 use Rattle.interleaving.proofs.Simulating.{simulation_keeps}
 use Rattle.interleaving.proofs.Schedules.{schedules}
 use Rattle.interleaving.proofs.Exploring.{explored_ends, explored_finals, led, leads, final_by, deadlocked}
@@ -26,8 +26,8 @@ one_of a b m h = one_of_by a b m (m == a) refl h
 pub barrier_ends : Ends one_workgroup (doing (Makes Barrier ∷ []) (Makes Barrier ∷ []))
 barrier_ends = explored_ends one_workgroup (doing (Makes Barrier ∷ []) (Makes Barrier ∷ [])) (λ m. true) 2 refl
 
-pub barrier_waits : Leads one_workgroup (doing (Makes Barrier ∷ []) (Makes Barrier ∷ [])) (0 ∷ []) (λ w. w.waits 0 && is_none (step one_workgroup (doing (Makes Barrier ∷ []) (Makes Barrier ∷ [])) w 0))
-barrier_waits = leads_by one_workgroup (doing (Makes Barrier ∷ []) (Makes Barrier ∷ [])) (0 ∷ []) (λ w. w.waits 0 && is_none (step one_workgroup (doing (Makes Barrier ∷ []) (Makes Barrier ∷ [])) w 0)) refl
+pub barrier_waits : Leads one_workgroup (doing (Makes Barrier ∷ Skip ∷ []) (Makes Barrier ∷ [])) (0 ∷ []) (λ w. w.waits 0 && is_none (step one_workgroup (doing (Makes Barrier ∷ Skip ∷ []) (Makes Barrier ∷ [])) w 0))
+barrier_waits = leads_by one_workgroup (doing (Makes Barrier ∷ Skip ∷ []) (Makes Barrier ∷ [])) (0 ∷ []) (λ w. w.waits 0 && is_none (step one_workgroup (doing (Makes Barrier ∷ Skip ∷ []) (Makes Barrier ∷ [])) w 0)) refl
 
 pub barrier_releases : Leads one_workgroup (doing (Makes Barrier ∷ []) (Makes Barrier ∷ [])) (0 ∷ 1 ∷ []) (λ w. not (w.waits 0) && not (w.waits 1))
 barrier_releases = leads_by one_workgroup (doing (Makes Barrier ∷ []) (Makes Barrier ∷ [])) (0 ∷ 1 ∷ []) (λ w. not (w.waits 0) && not (w.waits 1)) refl
@@ -37,6 +37,9 @@ waits_for_ever = deadlocked one_workgroup (doing [] (Makes Barrier ∷ [])) 1 (1
 
 pub own_workgroup : Ends two_workgroups (doing [] (Makes Barrier ∷ []))
 own_workgroup = explored_ends two_workgroups (doing [] (Makes Barrier ∷ [])) (λ m. true) 1 refl
+
+pub releases_its_own : Leads two_and_one (doing (Makes Barrier ∷ []) (Makes Barrier ∷ [])) (0 ∷ 2 ∷ []) (λ w. w.waits 0 && not (w.waits 2))
+releases_its_own = leads_by two_and_one (doing (Makes Barrier ∷ []) (Makes Barrier ∷ [])) (0 ∷ 2 ∷ []) (λ w. w.waits 0 && not (w.waits 2)) refl
 
 pub ordered : (m : ℕ) → Finals one_workgroup (doing (Makes (Exchange 1) ∷ Makes Barrier ∷ []) (Makes Barrier ∷ Makes (Exchange 2) ∷ [])) m → m ≡ 2
 ordered m f = eq_true m 2 (explored_finals one_workgroup (doing (Makes (Exchange 1) ∷ Makes Barrier ∷ []) (Makes Barrier ∷ Makes (Exchange 2) ∷ [])) (λ x. x == 2) 4 refl m f)
@@ -57,6 +60,24 @@ spins (suc n) w (inr h) s free =
 pub spin : Ends one_workgroup (doing (Spin ∷ []) []) → ⊥
 spin h = spins h.0 (first_world one_workgroup (doing (Spin ∷ []) [])) h.1 refl refl
 
+-- a wait for a word that another invocation is to store: where the other never steps, each load leaves all as it was
+awaits : (n : ℕ) (w : World (List Act) ℕ) → Within one_workgroup (doing (Await ∷ []) (Makes (Exchange 1) ∷ [])) n w → w.state 0 ≡ Await ∷ [] → w.waits 0 ≡ false → w.memory ≡ 0 → ⊥
+awaits zero w h s free m = cc ((h 0 (omega arith)).1)
+awaits (suc n) w (inl h) s free m = cc ((h 0 (omega arith)).1)
+awaits (suc n) w (inr h) s free m =
+    let p : Program (List Act) Access = doing (Await ∷ []) (Makes (Exchange 1) ∷ []) in
+    let k : Answer → List Act = λ x. cond (first_word x == 0) (Await ∷ []) [] in
+    let lt : 0 < 2 = omega arith in
+    let is_free : IsFree one_workgroup p w 0 = record { there = lt; free = free } in
+    awaits n (accessed one_workgroup w 0 (Load 2) k) (h.1 0 (accessed one_workgroup w 0 (Load 2) k) (step_stands one_workgroup p w 0 (Load 2) k is_free (ap look s)))
+    (put_here w.state 0 (k (w.memory ∷ [])) ∙ ap (λ x. k (x ∷ [])) m) free m
+
+pub unfair : Ends one_workgroup (doing (Await ∷ []) (Makes (Exchange 1) ∷ [])) → ⊥
+unfair h = awaits h.0 (first_world one_workgroup (doing (Await ∷ []) (Makes (Exchange 1) ∷ []))) h.1 refl refl refl
+
+pub awaited : Finals one_workgroup (doing (Await ∷ []) (Makes (Exchange 1) ∷ [])) 1
+awaited = final_by one_workgroup (doing (Await ∷ []) (Makes (Exchange 1) ∷ [])) (λ x. x == 1) 1 (λ x h. eq_true x 1 h) (0 ∷ 1 ∷ 0 ∷ []) refl
+
 -- FINAL MEMORIES
 pub exchanges_end : (m : ℕ) → Finals one_workgroup (doing (Makes (Exchange 1) ∷ []) (Makes (Exchange 2) ∷ [])) m → (m ≡ 1) ⊎ (m ≡ 2)
 exchanges_end m f = one_of 1 2 m (explored_finals one_workgroup (doing (Makes (Exchange 1) ∷ []) (Makes (Exchange 2) ∷ [])) (λ x. (x == 1) || (x == 2)) 2 refl m f)
@@ -72,6 +93,12 @@ additions m f = eq_true m 3 (explored_finals one_workgroup (doing (Makes (Add 1)
 
 pub lost_exchange : Finals one_workgroup (doing (Copy ∷ []) (Makes (Exchange 5) ∷ [])) 0
 lost_exchange = final_by one_workgroup (doing (Copy ∷ []) (Makes (Exchange 5) ∷ [])) (λ x. x == 0) 0 (λ x h. eq_true x 0 h) (0 ∷ 1 ∷ 0 ∷ []) refl
+
+pub copies : (m : ℕ) → Finals one_workgroup (doing (Makes (Exchange 7) ∷ Copy ∷ []) []) m → m ≡ 7
+copies m f = eq_true m 7 (explored_finals one_workgroup (doing (Makes (Exchange 7) ∷ Copy ∷ []) []) (λ x. x == 7) 3 refl m f)
+
+pub swaps_back : (m : ℕ) → Finals one_workgroup (doing (Swap 7 ∷ []) []) m → m ≡ 0
+swaps_back m f = eq_true m 0 (explored_finals one_workgroup (doing (Swap 7 ∷ []) []) (λ x. x == 0) 2 refl m f)
 
 -- TRACES
 spins_on : (n : ℕ) → trace_of look (Spin ∷ []) n [] ≡ ended Runs
@@ -100,6 +127,8 @@ sim_goes (Skip ∷ acts) v u r h = let same : acts ≡ v = cc h in record { coun
 sim_goes (Spin ∷ acts) v u r h = let same : Spin ∷ acts ≡ v = cc h in record { count = 1; state = Spin ∷ drop_unread acts; by = (Spin ∷ drop_unread acts, ap look r, refl); there = ap drop_unread same }
 sim_goes (Makes a ∷ acts) v u r h = absurd (cc h)
 sim_goes (Copy ∷ acts) v u r h = absurd (cc h)
+sim_goes (Swap n ∷ acts) v u r h = absurd (cc h)
+sim_goes (Await ∷ acts) v u r h = absurd (cc h)
 sim_goes (Trap ∷ acts) v u r h = absurd (cc h)
 
 -- an access that is read is not unread
@@ -117,6 +146,8 @@ sim_left_out (Makes (Exchange n) ∷ acts) u a k r h out x = absurd (read_kept a
 sim_left_out (Makes (Add n) ∷ acts) u a k r h out x = absurd (read_kept a (Add n) (access_same (Add n) a (λ y. acts) k h) refl out)
 sim_left_out (Makes Barrier ∷ acts) u a k r h out x = absurd (read_kept a Barrier (access_same Barrier a (λ y. acts) k h) refl out)
 sim_left_out (Copy ∷ acts) u a k r h out x = absurd (read_kept a (Load 1) (access_same (Load 1) a (λ y. Makes (Exchange (first_word y)) ∷ acts) k h) refl out)
+sim_left_out (Swap n ∷ acts) u a k r h out x = absurd (read_kept a (Exchange n) (access_same (Exchange n) a (λ y. Makes (Exchange (first_word y)) ∷ acts) k h) refl out)
+sim_left_out (Await ∷ acts) u a k r h out x = absurd (read_kept a (Load 2) (access_same (Load 2) a (λ y. cond (first_word y == 0) (Await ∷ acts) acts) k h) refl out)
 sim_left_out (Trap ∷ acts) u a k r h out x = absurd (cc h)
 
 -- both stand before the same access
@@ -134,6 +165,10 @@ meets a b k j i u h g next = record {
   };
 }
 
+drop_either : (b : Bool) (acts : List Act) → cond b (Await ∷ drop_unread acts) (drop_unread acts) ≡ drop_unread (cond b (Await ∷ acts) acts)
+drop_either true acts = refl
+drop_either false acts = refl
+
 sim_kept : (s u : List Act) (a : Access) (k : Answer → List Act) → R s u → look s ≡ Stands a k → is_unread a ≡ false → ComesTo look (Meets look Same R a k) u
 sim_kept [] u a k r h in_it = absurd (cc h)
 sim_kept (Skip ∷ acts) u a k r h in_it = absurd (cc h)
@@ -144,6 +179,10 @@ sim_kept (Makes (Exchange n) ∷ acts) u a k r h in_it = meets a (Exchange n) k 
 sim_kept (Makes (Add n) ∷ acts) u a k r h in_it = meets a (Add n) k (λ y. acts) (λ y. drop_unread acts) u h (ap look r) (λ x. refl)
 sim_kept (Makes Barrier ∷ acts) u a k r h in_it = meets a Barrier k (λ y. acts) (λ y. drop_unread acts) u h (ap look r) (λ x. refl)
 sim_kept (Copy ∷ acts) u a k r h in_it = meets a (Load 1) k (λ y. Makes (Exchange (first_word y)) ∷ acts) (λ y. Makes (Exchange (first_word y)) ∷ drop_unread acts) u h (ap look r) (λ x. refl)
+sim_kept (Swap n ∷ acts) u a k r h in_it =
+    meets a (Exchange n) k (λ y. Makes (Exchange (first_word y)) ∷ acts) (λ y. Makes (Exchange (first_word y)) ∷ drop_unread acts) u h (ap look r) (λ x. refl)
+sim_kept (Await ∷ acts) u a k r h in_it =
+    meets a (Load 2) k (λ y. cond (first_word y == 0) (Await ∷ acts) acts) (λ y. cond (first_word y == 0) (Await ∷ drop_unread acts) (drop_unread acts)) u h (ap look r) (λ x. drop_either (first_word x == 0) acts)
 sim_kept (Trap ∷ acts) u a k r h in_it = absurd (cc h)
 
 sim_returned : (s u : List Act) → R s u → look s ≡ HasReturned → ComesTo look (λ v. look v ≡ HasReturned) u
@@ -152,6 +191,8 @@ sim_returned (Skip ∷ acts) u r h = absurd (cc h)
 sim_returned (Spin ∷ acts) u r h = absurd (cc h)
 sim_returned (Makes a ∷ acts) u r h = absurd (cc h)
 sim_returned (Copy ∷ acts) u r h = absurd (cc h)
+sim_returned (Swap n ∷ acts) u r h = absurd (cc h)
+sim_returned (Await ∷ acts) u r h = absurd (cc h)
 sim_returned (Trap ∷ acts) u r h = absurd (cc h)
 
 pub unread_simulation : Simulation look look is_unread Same R
@@ -234,3 +275,13 @@ moved_by (suc n) h = exchange_apart h.0
 
 pub order_is_kept : KeepsRead (Makes (Exchange 1) ∷ Makes (Exchange 2) ∷ []) (Makes (Exchange 2) ∷ Makes (Exchange 1) ∷ []) → ⊥
 order_is_kept h = let r = h 0 [] refl in moved_by r.0 r.1
+
+-- a return is kept, and so is what stands before a loop that never ends
+pub return_is_kept : KeepsRead [] (Spin ∷ []) → ⊥
+return_is_kept h = let r = h 0 [] tt in cc (ap (λ t. t.end) (spins_on r.0), r.2)
+
+spins_alone : (a : Access) (n : ℕ) → Alike Same (a ∷ []) (trace_of look (Spin ∷ []) n []).accesses → ⊥
+spins_alone a n h = subst (λ t. Alike Same (a ∷ []) t.accesses) (spins_on n) h
+
+pub kept_before_spin : KeepsRead (Makes (Exchange 1) ∷ Spin ∷ []) (Spin ∷ []) → ⊥
+kept_before_spin h = let r = h 0 [] refl in spins_alone (Exchange 1) r.0 r.1

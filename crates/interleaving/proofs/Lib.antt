@@ -3,7 +3,6 @@ pub mod Traces
 pub mod Keeping
 pub mod Simulating
 pub mod Worlds
-pub mod Beside
 pub mod Schedules
 pub mod Chains
 pub mod Beginning

@@ -1,5 +1,5 @@
 -- A small machine, to try the definitions on: each invocation has a list of things to do, and the memory is one word.
-use Rattle.std.specs.Prelude.{◌≡◌, ℕ, zero, suc, ◌+◌, Bool, true, false, List, [], ◌∷◌}
+use Rattle.std.specs.Prelude.{◌≡◌, ℕ, zero, suc, ◌+◌, Bool, true, false, cond, ◌==◌, List, [], ◌∷◌}
 use Rattle.interleaving.specs.Machine.{Answer, Move, HasReturned, IsStuck, Goes, Stands, Program, Effects, World, Run, first_world}
 use Rattle.interleaving.specs.Trace.{trace_of}
 use Rattle.interleaving.specs.Keeps.{Keeps}
@@ -11,12 +11,14 @@ pub data Access : Type 0 where
   Add : ℕ → Access
   Barrier : Access
 
--- a private step; one that is taken for ever; an access whose answer is not read; a load as instruction 1, whose answer is then stored; nothing that is defined
+-- a private step; one that is taken for ever; an access whose answer is not read; a load as instruction 1, whose answer is then stored; an exchange, whose answer is then stored; loads as instruction 2 until the word is not 0; nothing that is defined
 pub data Act : Type 0 where
   Skip : Act
   Spin : Act
   Makes : Access → Act
   Copy : Act
+  Swap : ℕ → Act
+  Await : Act
   Trap : Act
 
 abbrev pub first_word : Answer → ℕ
@@ -30,6 +32,8 @@ look (Skip ∷ acts) = Goes acts
 look (Spin ∷ acts) = Goes (Spin ∷ acts)
 look (Makes a ∷ acts) = Stands a (λ x. acts)
 look (Copy ∷ acts) = Stands (Load 1) (λ x. Makes (Exchange (first_word x)) ∷ acts)
+look (Swap n ∷ acts) = Stands (Exchange n) (λ x. Makes (Exchange (first_word x)) ∷ acts)
+look (Await ∷ acts) = Stands (Load 2) (λ x. cond (first_word x == 0) (Await ∷ acts) acts)
 look (Trap ∷ acts) = IsStuck
 
 abbrev pub after : Access → ℕ → ℕ
@@ -50,15 +54,19 @@ is_barrier (Exchange n) = false
 is_barrier (Add n) = false
 is_barrier Barrier = true
 
--- two invocations in these workgroups, and 0 in memory
-abbrev pub two : (ℕ → ℕ) → Effects Access ℕ
-two group = record { count = 2; group = group; memory = 0; after = after; answer = answer; is_barrier = is_barrier }
+-- this many invocations in these workgroups, and 0 in memory
+abbrev pub invocations : ℕ → (ℕ → ℕ) → Effects Access ℕ
+invocations count group = record { count = count; group = group; memory = 0; after = after; answer = answer; is_barrier = is_barrier }
 
 abbrev pub one_workgroup : Effects Access ℕ
-one_workgroup = two (λ i. 0)
+one_workgroup = invocations 2 (λ i. 0)
 
 abbrev pub two_workgroups : Effects Access ℕ
-two_workgroups = two (λ i. i)
+two_workgroups = invocations 2 (λ i. i)
+
+-- the last of three invocations is alone in its workgroup
+abbrev pub two_and_one : Effects Access ℕ
+two_and_one = invocations 3 (λ i. cond (i == 2) 1 0)
 
 -- the program in which the first invocation does one list and the others do the other
 abbrev pub start : List Act → List Act → ℕ → List Act
@@ -87,6 +95,8 @@ drop_unread (Makes (Exchange n) ∷ acts) = Makes (Exchange n) ∷ drop_unread a
 drop_unread (Makes (Add n) ∷ acts) = Makes (Add n) ∷ drop_unread acts
 drop_unread (Makes Barrier ∷ acts) = Makes Barrier ∷ drop_unread acts
 drop_unread (Copy ∷ acts) = Copy ∷ drop_unread acts
+drop_unread (Swap n ∷ acts) = Swap n ∷ drop_unread acts
+drop_unread (Await ∷ acts) = Await ∷ drop_unread acts
 drop_unread (Trap ∷ acts) = Trap ∷ drop_unread acts
 
 -- this schedule leads to a world of which P holds

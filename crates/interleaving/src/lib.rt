@@ -12,7 +12,7 @@ ghost use Rattle.std.specs.Prelude.{◌≡◌, ℕ, ◌==◌, ◌&&◌, not, ◌
 ghost use Rattle.interleaving.specs.Machine.{step, Ends, Finals};
 ghost use Rattle.interleaving.specs.Trace.{Returned, Asks, Runs, Stuck, ended, wanted, trace_of};
 ghost use Rattle.interleaving.specs.Laws.{SameFinals};
-ghost use Rattle.interleaving.specs.Example.{Act, Load, Exchange, Add, Barrier, Skip, Spin, Makes, Copy, Trap, look, one_workgroup, two_workgroups, doing, drop_unread, Leads, KeepsRead};
+ghost use Rattle.interleaving.specs.Example.{Act, Load, Exchange, Add, Barrier, Skip, Spin, Makes, Copy, Swap, Await, Trap, look, one_workgroup, two_workgroups, two_and_one, doing, drop_unread, Leads, KeepsRead};
 ghost use Rattle.interleaving.specs.Small.{two_programs, three_programs, three_traces, one_change, two_machines, two_sides, one_machine};
 
 /// Two programs and the effects of their accesses.
@@ -125,17 +125,22 @@ pub fn trace_law<M: Machine>()
 /// Facts of two invocations, each with a list of things to do, and one word of memory.
 pub fn facts_of_schedules()
     ensures barrier_ends { Ends one_workgroup (doing (Makes Barrier ∷ []) (Makes Barrier ∷ [])) }
-    ensures barrier_waits { let p = doing (Makes Barrier ∷ []) (Makes Barrier ∷ []) in Leads one_workgroup p (0 ∷ []) (λ w. w.waits 0 && is_none (step one_workgroup p w 0)) }
+    ensures barrier_waits { let p = doing (Makes Barrier ∷ Skip ∷ []) (Makes Barrier ∷ []) in Leads one_workgroup p (0 ∷ []) (λ w. w.waits 0 && is_none (step one_workgroup p w 0)) }
     ensures barrier_releases { Leads one_workgroup (doing (Makes Barrier ∷ []) (Makes Barrier ∷ [])) (0 ∷ 1 ∷ []) (λ w. not (w.waits 0) && not (w.waits 1)) }
     ensures waits_for_ever { ¬ (Ends one_workgroup (doing [] (Makes Barrier ∷ []))) }
     ensures own_workgroup { Ends two_workgroups (doing [] (Makes Barrier ∷ [])) }
+    ensures releases_its_own { Leads two_and_one (doing (Makes Barrier ∷ []) (Makes Barrier ∷ [])) (0 ∷ 2 ∷ []) (λ w. w.waits 0 && not (w.waits 2)) }
     ensures ordered { (m : ℕ) → Finals one_workgroup (doing (Makes (Exchange 1) ∷ Makes Barrier ∷ []) (Makes Barrier ∷ Makes (Exchange 2) ∷ [])) m → m ≡ 2 }
     ensures trap { ¬ (Ends one_workgroup (doing (Trap ∷ []) [])) }
     ensures spin { ¬ (Ends one_workgroup (doing (Spin ∷ []) [])) }
+    ensures unfair { ¬ (Ends one_workgroup (doing (Await ∷ []) (Makes (Exchange 1) ∷ []))) }
+    ensures awaited { Finals one_workgroup (doing (Await ∷ []) (Makes (Exchange 1) ∷ [])) 1 }
     ensures exchanges_end { (m : ℕ) → Finals one_workgroup (doing (Makes (Exchange 1) ∷ []) (Makes (Exchange 2) ∷ [])) m → (m ≡ 1) ⊎ (m ≡ 2) }
     ensures exchange_first { Finals one_workgroup (doing (Makes (Exchange 1) ∷ []) (Makes (Exchange 2) ∷ [])) 1 }
     ensures exchange_last { Finals one_workgroup (doing (Makes (Exchange 1) ∷ []) (Makes (Exchange 2) ∷ [])) 2 }
     ensures additions { (m : ℕ) → Finals one_workgroup (doing (Makes (Add 1) ∷ []) (Makes (Add 2) ∷ [])) m → m ≡ 3 }
+    ensures copies { (m : ℕ) → Finals one_workgroup (doing (Makes (Exchange 7) ∷ Copy ∷ []) []) m → m ≡ 7 }
+    ensures swaps_back { (m : ℕ) → Finals one_workgroup (doing (Swap 7 ∷ []) []) m → m ≡ 0 }
     ensures lost_exchange { Finals one_workgroup (doing (Copy ∷ []) (Makes (Exchange 5) ∷ [])) 0 }
 {}
 
@@ -160,6 +165,8 @@ pub fn facts_of_keeping()
     ensures exchange_is_kept { ¬ (KeepsRead (Makes (Exchange 1) ∷ []) []) }
     ensures read_load_is_kept { ¬ (KeepsRead (Copy ∷ []) []) }
     ensures nothing_is_added { ¬ (KeepsRead [] (Makes (Exchange 1) ∷ [])) }
+    ensures return_is_kept { ¬ (KeepsRead [] (Spin ∷ [])) }
+    ensures kept_before_spin { ¬ (KeepsRead (Makes (Exchange 1) ∷ Spin ∷ []) (Spin ∷ [])) }
     ensures order_is_kept { ¬ (KeepsRead (Makes (Exchange 1) ∷ Makes (Exchange 2) ∷ []) (Makes (Exchange 2) ∷ Makes (Exchange 1) ∷ [])) }
 {}
 

@@ -21,3 +21,9 @@ returns-clause-nothing_is_added c = facts.nothing_is_added
 
 pub returns-clause-order_is_kept : goal.returns-clause-order_is_kept
 returns-clause-order_is_kept c = facts.order_is_kept
+
+pub returns-clause-return_is_kept : goal.returns-clause-return_is_kept
+returns-clause-return_is_kept c = facts.return_is_kept
+
+pub returns-clause-kept_before_spin : goal.returns-clause-kept_before_spin
+returns-clause-kept_before_spin c = facts.kept_before_spin

@@ -39,3 +39,18 @@ returns-clause-additions c = facts.additions
 
 pub returns-clause-lost_exchange : goal.returns-clause-lost_exchange
 returns-clause-lost_exchange c = facts.lost_exchange
+
+pub returns-clause-releases_its_own : goal.returns-clause-releases_its_own
+returns-clause-releases_its_own c = facts.releases_its_own
+
+pub returns-clause-unfair : goal.returns-clause-unfair
+returns-clause-unfair c = facts.unfair
+
+pub returns-clause-awaited : goal.returns-clause-awaited
+returns-clause-awaited c = facts.awaited
+
+pub returns-clause-copies : goal.returns-clause-copies
+returns-clause-copies c = facts.copies
+
+pub returns-clause-swaps_back : goal.returns-clause-swaps_back
+returns-clause-swaps_back c = facts.swaps_back
