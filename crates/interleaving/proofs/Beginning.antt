@@ -4,7 +4,7 @@ use Rattle.interleaving.specs.Machine.{Answer, Move, HasReturned, IsStuck, Goes,
 use Rattle.interleaving.specs.Trace.{TraceEnd, Returned, Asks, Runs, Stuck, Trace, Traces, before, at_rest, in_motion, trace_of}
 use Rattle.interleaving.specs.Keeps.{without, Alike, LastKept, IsOver, KeptBut, Keeps}
 use Rattle.interleaving.specs.Loses.{marks_of, LastIs, AllMarked, WantsOf, Loses}
-use Rattle.interleaving.proofs.Lists.{Filled, alike_self, last_mark, behind_last}
+use Rattle.interleaving.proofs.Lists.{Filled, alike_self, last_mark, mark_last, behind_last}
 use Rattle.interleaving.proofs.Traces.{trace_full, same_trace}
 use Rattle.interleaving.proofs.Keeping.{over_not_runs}
 
@@ -179,3 +179,40 @@ chain_of_none Kind Same this self = record {
   fixed = λ n m xs h g. refl;
   kept = λ n xs over. (n, subst (λ l. Alike Same l (this n (without (marks_of (λ ys. false) xs) xs)).accesses) (sym (nothing_lost xs (this n xs).accesses)) (subst (λ l. Alike Same (this n xs).accesses (this n l).accesses) (sym (nothing_lost xs xs)) (alike_self Same self (this n xs).accesses)), ap (λ l. (this n l).end) (nothing_lost xs xs));
 }
+
+-- where nothing is of the kind, nothing is left out, and all accesses are kept
+last_of_none : {A : Type 0} (P : A → Type 0) → ((a : A) → P a → ⊥) → (l : List A) → LastIs P l → ⊥
+last_of_none P none [] h = h
+last_of_none P none (a ∷ []) h = none a h
+last_of_none P none (a ∷ b ∷ l) h = last_of_none P none (b ∷ l) h
+
+nothing_marked : {A X : Type 0} (xs : List A) (l : List X) → without (map (λ a. false) xs) l ≡ l
+nothing_marked [] l = refl
+nothing_marked (a ∷ xs) [] = refl
+nothing_marked (a ∷ xs) (y ∷ l) = ap (λ z. y ∷ z) (nothing_marked xs l)
+
+module _ {A : Type 0} (Kind : A → Type 0) (Same : A → A → Type 0) (this other : Traces A) (none : (a : A) → Kind a → ⊥) (loses : Loses Kind Same this other) where
+  not_lost : (n : ℕ) (xs : List Answer) (b : Bool) → loses.lost n xs ≡ b → b ≡ false
+  not_lost n xs false h = refl
+  not_lost n xs true h = absurd (last_of_none Kind none (this n xs).accesses (loses.wanted n xs h).kind)
+
+  not_marked : {X : Type 0} (n : ℕ) (xs : List Answer) (l : List X) → without (marks_of (loses.lost n) xs) l ≡ l
+  not_marked n xs l = ap (λ f. without (marks_of f xs) l) (λ i ys. not_lost n ys (loses.lost n ys) refl i) ∙ nothing_lost xs l
+
+  over_anyway : (n : ℕ) (xs : List Answer) (end : TraceEnd) (marks : List Bool) → IsOver end marks → IsOver end (marks_of (loses.lost n) xs)
+  over_anyway n xs Returned marks h = tt
+  over_anyway n xs Asks marks h = mark_last (loses.lost n) xs (not_lost n xs (loses.lost n xs) refl)
+  over_anyway n xs Runs marks h = h
+  over_anyway n xs Stuck marks h = h
+
+  pub all_kept : Keeps (λ a. false) Same this other
+  all_kept n xs over =
+      let t : Trace A = this n xs in
+      let r = loses.kept n xs (over_anyway n xs t.end (map (λ a. false) t.accesses) over) in
+      let accesses : without (marks_of (loses.lost n) xs) t.accesses ≡ without (map (λ a. false) t.accesses) t.accesses = not_marked n xs t.accesses ∙ sym (nothing_marked t.accesses t.accesses) in
+      let answers : without (marks_of (loses.lost n) xs) xs ≡ without (map (λ a. false) t.accesses) xs = not_marked n xs xs ∙ sym (nothing_marked t.accesses xs) in (
+        r.0,
+        subst (λ l. Alike Same (without (map (λ a. false) t.accesses) t.accesses) (other r.0 l).accesses) answers
+            (subst (λ l. Alike Same l (other r.0 (without (marks_of (loses.lost n) xs) xs)).accesses) accesses r.1),
+        ap (λ l. (other r.0 l).end) (sym answers) ∙ r.2,
+      )

@@ -1,10 +1,10 @@
 -- The laws, each from its proof.
-use Rattle.interleaving.specs.Laws.{TwoPrograms, ScheduleLaw, ThreePrograms, FinalsChain, FinalsOfNone, ThreeTraces, AccessChain, AccessesOfNone, OneChange, ChainBegins, LeftOutAreOfKind, TwoMachines, SimulationLaw, TwoSides, KeepsBetween, OneMachine, TraceLaw}
+use Rattle.interleaving.specs.Laws.{TwoPrograms, ScheduleLaw, ThreePrograms, FinalsChain, FinalsOfNone, ThreeTraces, AccessChain, AccessesOfNone, NothingLost, OneChange, ChainBegins, LeftOutAreOfKind, TwoMachines, SimulationLaw, TwoSides, KeepsBetween, OneMachine, TraceLaw}
 use Rattle.interleaving.proofs.Traces.{are_traces}
 use Rattle.interleaving.proofs.Simulating.{simulation_keeps, keeps_between}
 use Rattle.interleaving.proofs.Schedules.{schedules}
 use Rattle.interleaving.proofs.Chains.{compose}
-use Rattle.interleaving.proofs.Beginning.{begin, chain_of_none, left_out_are_of_kind}
+use Rattle.interleaving.proofs.Beginning.{begin, all_kept, chain_of_none, left_out_are_of_kind}
 
 pub schedule_law : (c : TwoPrograms) → ScheduleLaw c
 schedule_law c suits keeps ends = schedules c.before c.after c.old c.new c.left c.Same c.Near suits keeps ends
@@ -28,6 +28,9 @@ finals_of_none c near ends = record { ends = ends; there = λ m final. (m, final
 
 pub accesses_of_none : (c : ThreeTraces) → AccessesOfNone c
 accesses_of_none c same = chain_of_none c.Kind1 c.Same12 c.traces1 same
+
+pub nothing_lost_law : (c : ThreeTraces) → NothingLost c
+nothing_lost_law c none loses = all_kept c.Kind1 c.Same12 c.traces1 c.traces2 none loses
 
 pub access_chain : (c : ThreeTraces) → AccessChain c
 access_chain c first second through back l12 l23 =

@@ -104,6 +104,13 @@ AccessChain c =
 abbrev pub AccessesOfNone : ThreeTraces → Type 0
 AccessesOfNone c = ((x : c.A) → c.Same12 x x) → Loses c.Kind1 c.Same12 c.traces1 c.traces1
 
+-- where nothing is of the kind, all accesses are kept
+abbrev pub NothingLost : ThreeTraces → Type 0
+NothingLost c =
+    ((x : c.A) → c.Kind1 x → ⊥) →
+    Loses c.Kind1 c.Same12 c.traces1 c.traces2 →
+    Keeps (λ x. false) c.Same12 c.traces1 c.traces2
+
 -- one state, the traces beside it, and what is left out and to be kept
 pub record OneChange : Type 1 where
   pub S : Type 0

@@ -26,7 +26,7 @@ pub record WantsOf {A : Type 0} (Kind : A → Type 0) (this : Traces A) (n : ℕ
   pub asks : (this n answers).end ≡ Asks
   pub kind : LastIs Kind (this n answers).accesses
 
--- the other invocation makes the accesses of this one, but for some of a kind, which the answers before them tell
+-- the other invocation makes the accesses of this one, but for some of a kind, which the answers before them tell; of a kind that nothing is of, none
 pub record Loses {A : Type 0} (Kind : A → Type 0) (Same : A → A → Type 0) (this other : Traces A) : Type 0 where
   -- whether the access that is wanted after these answers, within n instructions, is left out
   pub lost : ℕ → List Answer → Bool

@@ -7,7 +7,7 @@
 #![tactic(auto)]
 
 ghost use Rattle.interleaving.specs.Laws.{TwoPrograms, ThreePrograms, ThreeTraces, OneChange, TwoMachines, TwoSides, OneMachine};
-ghost use Rattle.interleaving.specs.Laws.{ScheduleLaw, FinalsChain, FinalsOfNone, AccessChain, AccessesOfNone, ChainBegins, LeftOutAreOfKind, SimulationLaw, KeepsBetween, TraceLaw};
+ghost use Rattle.interleaving.specs.Laws.{ScheduleLaw, FinalsChain, FinalsOfNone, AccessChain, AccessesOfNone, NothingLost, ChainBegins, LeftOutAreOfKind, SimulationLaw, KeepsBetween, TraceLaw};
 ghost use Rattle.std.specs.Prelude.{◌≡◌, ℕ, ◌==◌, ◌&&◌, not, ◌⊎◌, List, [], ◌∷◌, is_none};
 ghost use Rattle.interleaving.specs.Machine.{step, Ends, Finals};
 ghost use Rattle.interleaving.specs.Trace.{Returned, Asks, Runs, Stuck, ended, wanted, trace_of};
@@ -88,16 +88,18 @@ pub fn schedule_law<P: ProgramPair>()
     ensures { ScheduleLaw P.programs }
 {}
 
-/// Final memories compose, step by step.
+/// Final memories compose, step by step, and over no change they are the same.
 pub fn finals_chain<P: ProgramTriple>()
     ensures chain { FinalsChain P.programs }
     ensures none { FinalsOfNone P.programs }
 {}
 
-/// Accesses kept by each of two neighbours are kept by both, where what is left out is told by the answers before it.
+/// Accesses kept by each of two neighbours are kept by both, where what is left out is told by the answers before it;
+/// over no change all are kept, and so they are where nothing is of the kind that may be left out.
 pub fn access_chain<T: TraceTriple>()
     ensures chain { AccessChain T.traces }
     ensures none { AccessesOfNone T.traces }
+    ensures nothing { NothingLost T.traces }
 {}
 
 /// One change whose left-out accesses are told by a test begins such a chain; what a chain leaves out of a trace is of
@@ -122,7 +124,14 @@ pub fn trace_law<M: Machine>()
     ensures { TraceLaw M.machine }
 {}
 
-/// Facts of two invocations, each with a list of things to do, and one word of memory.
+/// Facts of a few invocations, each with a list of things to do, and one word of memory.
+///
+/// Two invocations that come to a barrier return; the first to come waits, though it has more to do, and the second
+/// releases both. One that returns lets the other wait for ever, unless the other is alone in its workgroup; a barrier
+/// releases its own workgroup alone. What is stored before a barrier comes before what is stored behind it. One that is
+/// stuck, a spin loop, and a wait for a word that some schedules never store do not end, though the last has a final
+/// memory. Two exchanges leave either word and no other, two additions their sum. A load answers what was stored, an
+/// exchange what was there before it, and a load and a store may lose what is stored between them.
 pub fn facts_of_schedules()
     ensures barrier_ends { Ends one_workgroup (doing (Makes Barrier ∷ []) (Makes Barrier ∷ [])) }
     ensures barrier_waits { let p = doing (Makes Barrier ∷ Skip ∷ []) (Makes Barrier ∷ []) in Leads one_workgroup p (0 ∷ []) (λ w. w.waits 0 && is_none (step one_workgroup p w 0)) }
@@ -156,8 +165,9 @@ pub fn facts_of_traces()
     ensures spin_runs { (n : ℕ) → trace_of look (Spin ∷ []) n [] ≡ ended Runs }
 {}
 
-/// Facts of accesses kept: unread loads may go, and the law over schedules applies where they do; nothing else may be
-/// dropped, added or moved.
+/// Facts of accesses kept: unread loads may go, and the law over schedules applies where they do; no barrier, store,
+/// load that is read or return may be dropped, nor a store before a loop that never ends, and none may be added or
+/// moved.
 pub fn facts_of_keeping()
     ensures drops_unread { (acts : List Act) → KeepsRead acts (drop_unread acts) }
     ensures law_applies { (a b : List Act) → Ends one_workgroup (doing a b) → SameFinals one_workgroup (doing a b) one_workgroup (doing (drop_unread a) (drop_unread b)) (λ m n. m ≡ n) }
