@@ -4,14 +4,9 @@ use Rattle.interleaving.specs.Machine.{Answer, Move, HasReturned, IsStuck, Goes,
 use Rattle.interleaving.specs.Trace.{TraceEnd, Returned, Asks, Runs, Stuck, Trace, Traces, before, at_rest, in_motion, trace_of}
 use Rattle.interleaving.specs.Keeps.{without, Alike, LastKept, IsOver, KeptBut, Keeps}
 use Rattle.interleaving.specs.Loses.{marks_of, LastIs, AllMarked, WantsOf, Loses}
-use Rattle.interleaving.proofs.Lists.{Filled, alike_self, last_mark, mark_last, behind_last}
+use Rattle.interleaving.proofs.Lists.{Filled, filled, alike_self, last_mark, mark_last, behind_last}
 use Rattle.interleaving.proofs.Traces.{trace_full, same_trace}
 use Rattle.interleaving.proofs.Keeping.{over_not_runs}
-
--- a list of some length has an element
-filled : {A : Type 0} (xs : List A) (n : ℕ) → length xs ≡ suc n → Filled xs
-filled [] n e = absurd (cc e)
-filled (x ∷ xs) n e = tt
 
 -- what f tells of the last element
 abbrev last_of : {A : Type 0} → (A → Bool) → List A → Bool
@@ -132,26 +127,27 @@ module _ {S A : Type 0} (look : S → Move S A) (s : S) (left : A → Bool) (Sam
 
 -- what is left out of a whole trace is of the kind: by induction on the instructions
 module _ {S A : Type 0} (look : S → Move S A) (Kind : A → Type 0) where
-  abbrev Tells : ℕ → S → (List Answer → Bool) → Type 0
-  Tells n s f = (ys : List Answer) → f ys ≡ true → WantsOf Kind (trace_of look s) n ys
+  -- where f holds of some answers, the trace under them wants an answer to an access of the kind
+  abbrev Tells : (List Answer → Trace A) → (List Answer → Bool) → Type 0
+  Tells run f = (ys : List Answer) → f ys ≡ true → ((run ys).end ≡ Asks) × LastIs Kind (run ys).accesses
 
   kind_nothing : (f : List Answer → Bool) (xs : List Answer) → AllMarked Kind (marks_of f xs) []
   kind_nothing f [] = tt
   kind_nothing f (x ∷ xs) = tt
 
-  kind_at_rest : (m : Move S A) (xs : List Answer) (f : List Answer → Bool) → ((at_rest m xs).end ≡ Runs → ⊥) → ((ys : List Answer) → f ys ≡ true → LastIs Kind (at_rest m ys).accesses) → AllMarked Kind (marks_of f xs) (at_rest m xs).accesses
+  kind_at_rest : (m : Move S A) (xs : List Answer) (f : List Answer → Bool) → ((at_rest m xs).end ≡ Runs → ⊥) → Tells (at_rest m) f → AllMarked Kind (marks_of f xs) (at_rest m xs).accesses
   kind_at_rest HasReturned xs f h tells = kind_nothing f xs
   kind_at_rest IsStuck xs f h tells = kind_nothing f xs
   kind_at_rest (Goes v) xs f h tells = absurd (h refl)
-  kind_at_rest (Stands a k) [] f h tells = (λ e. tells [] e, tt)
+  kind_at_rest (Stands a k) [] f h tells = (λ e. (tells [] e).1, tt)
   kind_at_rest (Stands a k) (x ∷ xs) f h tells = absurd (h refl)
 
+  -- what is shown of n instructions
   abbrev KindOf : ℕ → Type 0
-  KindOf n = (s : S) (xs : List Answer) (f : List Answer → Bool) → ((trace_of look s n xs).end ≡ Runs → ⊥) → ((ys : List Answer) → f ys ≡ true → ((trace_of look s n ys).end ≡ Asks) × LastIs Kind (trace_of look s n ys).accesses) → AllMarked Kind (marks_of f xs) (trace_of look s n xs).accesses
+  KindOf n = (s : S) (xs : List Answer) (f : List Answer → Bool) → ((trace_of look s n xs).end ≡ Runs → ⊥) → Tells (trace_of look s n) f → AllMarked Kind (marks_of f xs) (trace_of look s n xs).accesses
 
   kind_in_motion : (n : ℕ) (m : Move S A) (xs : List Answer) (f : List Answer → Bool) → KindOf n → ((in_motion (λ w ys. trace_of look w n ys) m xs).end ≡ Runs → ⊥)
-      → ((ys : List Answer) → f ys ≡ true → ((in_motion (λ w zs. trace_of look w n zs) m ys).end ≡ Asks) × LastIs Kind (in_motion (λ w zs. trace_of look w n zs) m ys).accesses)
-      → AllMarked Kind (marks_of f xs) (in_motion (λ w ys. trace_of look w n ys) m xs).accesses
+      → Tells (in_motion (λ w zs. trace_of look w n zs) m) f → AllMarked Kind (marks_of f xs) (in_motion (λ w ys. trace_of look w n ys) m xs).accesses
   kind_in_motion n HasReturned xs f ih h tells = kind_nothing f xs
   kind_in_motion n IsStuck xs f ih h tells = kind_nothing f xs
   kind_in_motion n (Goes v) xs f ih h tells = ih v xs f h tells
@@ -165,10 +161,11 @@ module _ {S A : Type 0} (look : S → Move S A) (Kind : A → Type 0) where
   )
 
   pub kind_of : (n : ℕ) → KindOf n
-  kind_of zero s xs f h tells = kind_at_rest (look s) xs f h (λ ys e. (tells ys e).1)
+  kind_of zero s xs f h tells = kind_at_rest (look s) xs f h tells
   kind_of (suc n) s xs f h tells = kind_in_motion n (look s) xs f (kind_of n) h tells
 
-pub left_out_are_of_kind : {S A : Type 0} (look : S → Move S A) (s : S) (Same : A → A → Type 0) (Kind : A → Type 0) (other : Traces A) (loses : Loses Kind Same (trace_of look s) other) (n : ℕ) (xs : List Answer) → ((trace_of look s n xs).end ≡ Runs → ⊥) → AllMarked Kind (marks_of (loses.lost n) xs) (trace_of look s n xs).accesses
+pub left_out_are_of_kind : {S A : Type 0} (look : S → Move S A) (s : S) (Same : A → A → Type 0) (Kind : A → Type 0) (other : Traces A) (loses : Loses Kind Same (trace_of look s) other) (n : ℕ) (xs : List Answer)
+    → ((trace_of look s n xs).end ≡ Runs → ⊥) → AllMarked Kind (marks_of (loses.lost n) xs) (trace_of look s n xs).accesses
 left_out_are_of_kind look s Same Kind other loses n xs h = kind_of look Kind n s xs (loses.lost n) h (λ ys e. let w = loses.wanted n ys e in (w.asks, w.kind))
 
 -- nothing changed leaves out nothing
@@ -177,7 +174,13 @@ chain_of_none Kind Same this self = record {
   lost = λ n xs. false;
   wanted = λ n xs h. absurd (cc h);
   fixed = λ n m xs h g. refl;
-  kept = λ n xs over. (n, subst (λ l. Alike Same l (this n (without (marks_of (λ ys. false) xs) xs)).accesses) (sym (nothing_lost xs (this n xs).accesses)) (subst (λ l. Alike Same (this n xs).accesses (this n l).accesses) (sym (nothing_lost xs xs)) (alike_self Same self (this n xs).accesses)), ap (λ l. (this n l).end) (nothing_lost xs xs));
+  kept = λ n xs over.
+      let marks : List Bool = marks_of (λ ys. false) xs in (
+        n,
+        subst (λ l. Alike Same l (this n (without marks xs)).accesses) (sym (nothing_lost xs (this n xs).accesses))
+            (subst (λ l. Alike Same (this n xs).accesses (this n l).accesses) (sym (nothing_lost xs xs)) (alike_self Same self (this n xs).accesses)),
+        ap (λ l. (this n l).end) (nothing_lost xs xs),
+      );
 }
 
 -- where nothing is of the kind, nothing is left out, and all accesses are kept

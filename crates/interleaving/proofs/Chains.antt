@@ -6,10 +6,6 @@ use Rattle.interleaving.specs.Keeps.{without, Alike, IsOver}
 use Rattle.interleaving.specs.Loses.{marks_of, LastIs, WantsOf, Loses, AreTraces}
 use Rattle.interleaving.proofs.Lists.{alike_without, alike_compose, last_back, last_stays, joined, without_joined, length_marks, last_mark, mark_last, same_marks, without_begins, either, marks_joined}
 
--- what a mark asks of an end
-not_runs : (end : TraceEnd) → end ≡ Asks → end ≡ Runs → ⊥
-not_runs end h g = cc (h, g)
-
 -- it is known what comes after these answers
 abbrev IsKnown : TraceEnd → Bool → Type 0
 IsKnown Returned lost = Unit {0}

@@ -60,10 +60,6 @@ none_is : {X : Type 0} (o : Option X) → not (is_step o) ≡ true → o ≡ Non
 none_is None h = refl
 none_is (Some x) h = absurd (cc h)
 
-not_is : (b : Bool) → not b ≡ false → b ≡ true
-not_is true h = refl
-not_is false h = absurd (cc h)
-
 not_true : (b : Bool) → not b ≡ true → b ≡ false
 not_true true h = absurd (cc h)
 not_true false h = refl

@@ -5,7 +5,7 @@ use Rattle.interleaving.specs.Trace.{TraceEnd, Returned, Asks, Runs, Stuck, Trac
 use Rattle.interleaving.specs.Keeps.{without, Alike, IsOver, KeptBut, Keeps}
 use Rattle.interleaving.specs.Simulation.{Comes, ComesTo}
 use Rattle.interleaving.proofs.Traces.{trace_goes, trace_answered, trace_wants, trace_returned, trace_at_goes, trace_at_answered, trace_full}
-use Rattle.interleaving.proofs.Lists.{Filled, filled_map}
+use Rattle.interleaving.proofs.Lists.{Filled, filled, filled_map}
 
 -- the end of what is over is not that more instructions are wanted
 pub over_not_runs : (end : TraceEnd) (marks : List Bool) → IsOver end marks → end ≡ Runs → ⊥
@@ -37,13 +37,6 @@ over_behind Asks b (c ∷ marks) h = h
 over_behind Runs b marks h = h
 over_behind Stuck b marks h = h
 
--- private steps compose, and end where the state takes none
-pub comes_compose : {U A : Type 0} (look : U → Move U A) (n : ℕ) (u v : U) (P Q : U → Type 0) → Comes look n u v → P v → ((w : U) → P w → ComesTo look Q w) → ComesTo look Q u
-comes_compose look zero u v P Q h p next = next u (subst P (sym h) p)
-comes_compose look (suc n) u v P Q h p next =
-    let r = comes_compose look n h.0 v P Q h.2 p next in
-    record { count = suc r.count; state = r.state; by = (h.0, h.1, r.by); there = r.there }
-
 -- no private step is next
 abbrev pub IsCalm : {S A : Type 0} → Move S A → Type 0
 IsCalm HasReturned = Unit {0}
@@ -51,6 +44,7 @@ IsCalm IsStuck = Unit {0}
 IsCalm (Goes s) = ⊥
 IsCalm (Stands a k) = Unit {0}
 
+-- private steps from such a state lead nowhere else
 pub comes_calm : {U A : Type 0} (look : U → Move U A) (n : ℕ) (u v : U) → Comes look n u v → IsCalm (look u) → u ≡ v
 comes_calm look zero u v h calm = h
 comes_calm look (suc n) u v h calm = absurd (subst IsCalm h.1 calm)
@@ -74,7 +68,7 @@ module _ {A : Type 0} (left : A → Bool) (Same : A → A → Type 0) where
       let marks : List Bool = map left t.accesses in
       let g : KeptBut Same (left a ∷ marks) (before a t) (x ∷ xs) other = subst (λ z. KeptBut Same (map left z.accesses) z (x ∷ xs) other) (trace_answered look s a k n x xs e) (h (suc n) (x ∷ xs)) in
       let f : KeptBut Same (true ∷ marks) (before a t) (x ∷ xs) other = subst (λ b. KeptBut Same (b ∷ marks) (before a t) (x ∷ xs) other) out g in
-      f (over_with_left_out t.end marks (λ q. filled_map left t.accesses (length xs) (trace_full look n (k x) xs q)) over)
+      f (over_with_left_out t.end marks (λ q. filled_map left t.accesses (filled t.accesses (length xs) (trace_full look n (k x) xs q))) over)
 
   -- a private step of the other one: it made it
   goes_other : {U : Type 0} (look : U → Move U A) (u w : U) (l : List A) (ys : List Answer) (end : TraceEnd) → look u ≡ Goes w → (end ≡ Runs → ⊥) → (n : ℕ) → Alike Same l (trace_of look u n ys).accesses → (trace_of look u n ys).end ≡ end
@@ -89,10 +83,6 @@ module _ {A : Type 0} (left : A → Bool) (Same : A → A → Type 0) where
       let marks : List Bool = map left t.accesses in
       let r = h n xs over in
       goes_other look u w (without marks t.accesses) (without marks xs) t.end e (over_not_runs t.end marks over) r.0 r.1 r.2
-
-  pub keeps_other_comes : {U : Type 0} (look : U → Move U A) (n : ℕ) (u w : U) (this : Traces A) → Comes look n u w → Keeps left Same this (trace_of look u) → Keeps left Same this (trace_of look w)
-  keeps_other_comes look zero u w this c h = subst (λ z. Keeps left Same this (trace_of look z)) c h
-  keeps_other_comes look (suc n) u w this c h = keeps_other_comes look n c.0 w this c.2 (keeps_other_goes look u c.0 this c.1 h)
 
   -- an access of both
   answered_other : {U : Type 0} (look : U → Move U A) (u : U) (a b : A) (k : Answer → U) (x : Answer) (l : List A) (ys : List Answer) (end : TraceEnd) → look u ≡ Stands b k → (end ≡ Runs → ⊥) → (n : ℕ) → Alike Same (a ∷ l) (trace_of look u n (x ∷ ys)).accesses → (trace_of look u n (x ∷ ys)).end ≡ end

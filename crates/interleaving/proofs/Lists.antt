@@ -48,10 +48,14 @@ abbrev pub Filled : {A : Type 0} → List A → Type 0
 Filled [] = ⊥
 Filled (x ∷ xs) = Unit {0}
 
--- a list of some length has as many marks
-pub filled_map : {A B : Type 0} (f : A → B) (xs : List A) (n : ℕ) → length xs ≡ suc n → Filled (map f xs)
-filled_map f [] n e = absurd (cc e)
-filled_map f (x ∷ xs) n e = tt
+-- a list of some length has an element, and so has its image
+pub filled : {A : Type 0} (xs : List A) (n : ℕ) → length xs ≡ suc n → Filled xs
+filled [] n e = absurd (cc e)
+filled (x ∷ xs) n e = tt
+
+pub filled_map : {A B : Type 0} (f : A → B) (xs : List A) → Filled xs → Filled (map f xs)
+filled_map f [] h = h
+filled_map f (x ∷ xs) h = tt
 
 -- what is not marked is left
 some_left : {A : Type 0} (b : Bool) (bs : List Bool) (xs : List A) → length xs ≡ suc (length bs) → LastKept (b ∷ bs) → Filled (without (b ∷ bs) xs)

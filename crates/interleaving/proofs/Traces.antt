@@ -1,7 +1,7 @@
 -- Traces: how they follow a step, and what holds of those of each machine.
 use Rattle.std.proofs.Common.{◌≡◌, ℕ, zero, suc, ◌+◌, zero-add, suc-add, add_comm, ◌⊎◌, inl, inr, List, [], ◌∷◌, ◌++◌, length, refl, sym, ap, ◌∙◌}
 use Rattle.interleaving.specs.Machine.{Answer, Move, HasReturned, IsStuck, Goes, Stands}
-use Rattle.interleaving.specs.Trace.{Returned, Asks, Runs, Stuck, Trace, ended, wanted, before, at_rest, in_motion, trace_of}
+use Rattle.interleaving.specs.Trace.{Returned, Asks, Runs, Trace, ended, wanted, before, at_rest, in_motion, trace_of}
 use Rattle.interleaving.specs.Loses.{AreTraces}
 
 -- a private step costs one instruction
@@ -17,14 +17,10 @@ pub trace_wants : {S A : Type 0} (look : S → Move S A) (s : S) (a : A) (k : An
 trace_wants look s a k zero e = ap (λ m. at_rest m []) e
 trace_wants look s a k (suc n) e = ap (λ m. in_motion (λ w ys. trace_of look w n ys) m []) e
 
--- nor does a return, nor to be stuck
+-- nor does a return
 pub trace_returned : {S A : Type 0} (look : S → Move S A) (s : S) (n : ℕ) (xs : List Answer) → look s ≡ HasReturned → trace_of look s n xs ≡ ended Returned
 trace_returned look s zero xs e = ap (λ m. at_rest m xs) e
 trace_returned look s (suc n) xs e = ap (λ m. in_motion (λ w ys. trace_of look w n ys) m xs) e
-
-pub trace_stuck : {S A : Type 0} (look : S → Move S A) (s : S) (n : ℕ) (xs : List Answer) → look s ≡ IsStuck → trace_of look s n xs ≡ ended Stuck
-trace_stuck look s zero xs e = ap (λ m. at_rest m xs) e
-trace_stuck look s (suc n) xs e = ap (λ m. in_motion (λ w ys. trace_of look w n ys) m xs) e
 
 -- with no instruction left, a private step and an access that is answered are not made
 pub trace_at_goes : {S A : Type 0} (look : S → Move S A) (s v : S) (xs : List Answer) → look s ≡ Goes v → trace_of look s zero xs ≡ ended Runs
