@@ -1,0 +1,11 @@
+pub mod Lists
+pub mod Traces
+pub mod Keeping
+pub mod Simulating
+pub mod Worlds
+pub mod Schedules
+pub mod Chains
+pub mod Beginning
+pub mod Laws
+pub mod Exploring
+pub mod Example
