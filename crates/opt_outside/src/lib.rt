@@ -5,5 +5,12 @@
 #![tactic(auto)]
 
 mod calls;
+mod copying;
+mod files;
+mod memory;
+mod names;
+mod schedule;
 
 pub use calls::{Failed, Outside};
+pub use memory::{Memory, NoMemory};
+pub use schedule::CallKind;
