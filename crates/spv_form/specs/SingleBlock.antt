@@ -84,9 +84,9 @@ is_ordered i = plain_section false i == section.DECLARATIONS || plain_section fa
 abbrev pub names_earlier : List Instruction → Instruction → Bool
 names_earlier before i = not (is_ordered i) || list_all (is_among (defined_ids before)) (needed_ids i)
 
--- what another instruction names is defined by one of all
-abbrev pub names_defined : List Instruction → Instruction → Bool
-names_defined all i = is_ordered i || list_all (is_among (defined_ids all)) (needed_ids i)
+-- what another instruction names is among the ids that are defined
+abbrev pub names_among : List ℕ → Instruction → Bool
+names_among ids i = is_ordered i || list_all (is_among ids) (needed_ids i)
 
 -- a module without line marks is of the form
 abbrev pub is_single_block_plain : List Instruction → Bool
@@ -95,7 +95,7 @@ is_single_block_plain insts =
     && has_one_block (map opcode insts)
     && each_behind defines_anew [] insts
     && each_behind names_earlier [] insts
-    && list_all (names_defined insts) insts
+    && list_all (names_among (defined_ids insts)) insts
 
 unfoldable pub single_block : List Instruction → Bool
 single_block insts = is_single_block_plain (without_lines insts)

@@ -1,6 +1,9 @@
 ghost use Rattle.std.specs.Prelude.{◌≡◌, IfOk};
 ghost use Rattle.spv_form.specs.SingleBlock.{single_block};
 
+use crate::definitions::{all_defined, read_definitions};
+use crate::opcodes::all_admitted;
+use crate::shape::has_one_block;
 use spv_module::{Flat, NoMemory};
 use std::alloc::Global;
 
@@ -8,5 +11,12 @@ use std::alloc::Global;
 pub fn is_single_block(alloc: Global, flat: &Flat) -> Result<bool, NoMemory>
     ensures { IfOk result (λ answer. answer ≡ single_block flat.now.insts) }
 {
-    Ok(crate::opcodes::all_admitted(flat.insts()) && crate::shape::has_one_block(flat.insts()))
+    let insts = flat.insts();
+    if !all_admitted(insts) || !has_one_block(insts) {
+        return Ok(false);
+    }
+    let Some(defined) = read_definitions(alloc, insts)? else {
+        return Ok(false);
+    };
+    Ok(all_defined(insts, &defined))
 }

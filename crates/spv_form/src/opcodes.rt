@@ -43,13 +43,19 @@ fn is_admitted(inst: &View) -> bool
     )
 }
 
+/// Whether the form has the opcode of an instruction, or it is a line mark.
+fn fits(inst: &View) -> bool
+    ensures { result ≡ (line_in (seen inst.now) || admitted_in (seen inst.now)) }
+{
+    is_line(inst) || is_admitted(inst)
+}
+
 /// Whether the form has the opcode of each instruction, line marks aside.
 pub fn all_admitted(insts: &InstList) -> bool
     ensures { result ≡ list_all admitted_in (without_lines insts.now) }
 {
     'instructions: for k in 0..insts.count() {
-        let inst = insts.at(k);
-        if !is_line(&inst) && !is_admitted(&inst) {
+        if !fits(&insts.at(k)) {
             return false;
         }
     }
