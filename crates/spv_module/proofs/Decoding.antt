@@ -3,6 +3,7 @@ use Rattle.std.proofs.Common.{◌≡◌, ℕ, zero, suc, ◌+◌, ◌-◌, ◌<�
 use Rattle.std.specs.List.{flat_map, slice_index}
 use Rattle.std.specs.Option.{option_or}
 use Rattle.std.specs.List.{slice_get}
+use Rattle.std.proofs.lemmas.Bool.{ltb-true, leb-true}
 use Rattle.std.proofs.Math.Seq.{take-suc}
 use Rattle.std.proofs.lemmas.Option.{get_or_from_slice_get}
 use Rattle.std.proofs.lemmas.Grind.{flat_map-append}
@@ -117,3 +118,24 @@ spelling-step header insts k i words words2 fits at e pushed =
     ap (flat_map (λ j. j.words)) longer ∙ flat_map-append (λ j. j.words) (take k insts) (i ∷ []) ∙ ap (λ (more : List ℕ). flat_map (λ j. j.words) (take k insts) ++ more) (append-nil i.words) in
     pushed ∙ ap (λ (front : List ℕ). front ++ i.words) e
     ∙ ap (λ (rest : List ℕ). 0x0723_0203 ∷ header.version ∷ header.generator ∷ header.bound ∷ header.schema ∷ rest) (sym spelled)
+
+no_first : (a b c : Option Refusal) → option_or (option_or a b) c ≡ None → a ≡ None
+no_first None b c e = refl
+no_first (Some refusal) b c e = cc
+
+no_second : (v s : Option ℕ) (fits : Bool) → at_place 1 v (at_place 3 (least (unless fits 103)) (at_place 4 s None)) ≡ None → fits ≡ true
+no_second None s true e = refl
+no_second None s false e = cc
+no_second (Some rule) s fits e = cc
+
+both_true : (a b : Bool) → (a && b) ≡ true → (a ≡ true) × (b ≡ true)
+both_true true b e = (refl, e)
+both_true false b e = cc
+
+-- a module that breaks no rule has a bound from 1 to 4,194,303
+pub bound_fits : (words : List ℕ) → first_in_decode words ≡ None → (0 < slice_index words 3) × (slice_index words 3 ≤ 4194303)
+bound_fits words e =
+    let header = no_first (header_broken (header_in words)) (first (instructions_broken words)) (first (group_2 (length words) (code_of words).insts)) (sym (first_in_decode-is words) ∙ e) in
+    let fits = no_second (least (unless (slice_index words 1 == 0x0001_0600) 101)) (least (unless (slice_index words 4 == 0) 102)) (nat_lt 0 (slice_index words 3) && nat_le (slice_index words 3) 4194303) header in
+    let both = both_true (nat_lt 0 (slice_index words 3)) (nat_le (slice_index words 3) 4194303) fits in
+    (ltb-true 0 (slice_index words 3) both.0, leb-true (slice_index words 3) 4194303 both.1)

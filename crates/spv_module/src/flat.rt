@@ -100,7 +100,8 @@ impl Flat {
 
     /// The instructions, in order.
     pub fn insts(&self) -> &InstList
-        ensures { result.now ≡ self.now.insts }
+        ensures same { result.now ≡ self.now.insts }
+        ensures few { length result.now < 2 ^ 32 }
     {
         &self.insts
     }

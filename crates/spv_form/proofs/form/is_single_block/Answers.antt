@@ -11,9 +11,9 @@ returns-then-not-all_admitted c =
     let insts = c.insts-insts.result.now in
     elim c.then-not-all_admitted.branch [
       | then-not-all_admitted-via-then-not-all_admitted w ↦
-          of_conditions insts false _ _ _ (sym w.if-not-all_admitted.true ∙ c.all_admitted.ensures) refl refl refl ∙ ap single_block c.insts-insts.ensures
+          of_conditions insts false _ _ _ (sym w.if-not-all_admitted.true ∙ c.all_admitted.ensures) refl refl refl ∙ ap single_block c.insts-insts.ensures.same
       | then-not-all_admitted-via-else-not-all_admitted+then-not-has_one_block w ↦
-          of_conditions insts true false _ _ (sym w.if-not-all_admitted.false ∙ c.all_admitted.ensures) (sym w.if-not-has_one_block.true ∙ w.has_one_block.ensures) refl refl ∙ ap single_block c.insts-insts.ensures
+          of_conditions insts true false _ _ (sym w.if-not-all_admitted.false ∙ c.all_admitted.ensures) (sym w.if-not-has_one_block.true ∙ w.has_one_block.ensures) refl refl ∙ ap single_block c.insts-insts.ensures.same
     ]
 
 pub returns-in_default : goal.returns-in_default
@@ -21,7 +21,7 @@ returns-in_default c =
     let insts = c.insts-insts.result.now in
     let none : Definitions (without_lines insts) None = subst (Definitions (without_lines insts)) c.in_default.is c.in_ok-defined.ensures in
     of_conditions insts true true false _ (sym c.if-not-all_admitted.false ∙ c.all_admitted.ensures) (sym c.if-not-has_one_block.false ∙ c.has_one_block.ensures) (sym none) refl
-    ∙ ap single_block c.insts-insts.ensures
+    ∙ ap single_block c.insts-insts.ensures.same
 
 pub returns : goal.returns
 returns c =
@@ -29,4 +29,4 @@ returns c =
     let some : AreDefined (without_lines insts) c.in-Some.defined = subst (Definitions (without_lines insts)) c.in-Some.is c.in_ok-defined.ensures in
     of_conditions insts true true true c.all_defined.result (sym c.if-not-all_admitted.false ∙ c.all_admitted.ensures) (sym c.if-not-has_one_block.false ∙ c.has_one_block.ensures) (sym some.ordered)
     (c.all_defined.ensures (defined_ids (without_lines insts)) some.ids)
-    ∙ ap single_block c.insts-insts.ensures
+    ∙ ap single_block c.insts-insts.ensures.same

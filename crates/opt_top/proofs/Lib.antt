@@ -1,0 +1,5 @@
+pub mod Joined
+pub mod Stripping
+pub mod Telling
+pub mod Answering
+pub mod Bounds

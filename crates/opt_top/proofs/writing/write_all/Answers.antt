@@ -1,0 +1,6 @@
+use Rattle.opt_top.proofs.Joined.{adds_more}
+use Rattle.opt_top.proofs.writing.write_all.Goals as goal
+
+pub pieces-preserved : goal.pieces-preserved
+pieces-preserved g c =
+    adds_more _ c.pieces.rest.now _ c.in_ok-taken.taken _ _ _ c.split_at.ensures.back c.pieces.invariant (c.in_ok-taken.ensures.ok)
