@@ -1,0 +1,4 @@
+pub mod Readings
+pub mod BitLists
+pub mod Searches
+pub mod FieldLists

@@ -1,0 +1,5 @@
+pub mod Numbers
+pub mod Arith
+pub mod Bits
+pub mod Compare
+pub mod Ext

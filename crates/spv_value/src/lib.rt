@@ -1,0 +1,8 @@
+//! Evaluation of instructions at words, as the stated machine computes.
+#![tactic(auto)]
+
+mod arith;
+mod bits;
+mod compare;
+mod ext;
+mod fields;
