@@ -3,3 +3,5 @@ pub mod Arith
 pub mod Bits
 pub mod Compare
 pub mod Ext
+pub mod Words
+pub mod Eval

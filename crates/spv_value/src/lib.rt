@@ -6,3 +6,7 @@ mod bits;
 mod compare;
 mod ext;
 mod fields;
+mod shapes;
+mod words;
+
+pub use words::{Answered, Operand};
