@@ -34,7 +34,7 @@ s_greater_than w a b = from_bool (int_lt (signed w b) (signed w a))
 unfoldable pub s_greater_than_equal : ℕ → ℕ → ℕ → ℕ
 s_greater_than_equal w a b = from_bool (int_le (signed w b) (signed w a))
 
--- ---- booleans
+-- ---- booleans, which are equal as integers are
 
 abbrev pub is_one : ℕ → Bool
 is_one b = b == 1
@@ -47,12 +47,6 @@ logical_and a b = from_bool (is_one a && is_one b)
 
 unfoldable pub logical_or : ℕ → ℕ → ℕ
 logical_or a b = from_bool (is_one a || is_one b)
-
-unfoldable pub logical_equal : ℕ → ℕ → ℕ
-logical_equal a b = from_bool (a == b)
-
-unfoldable pub logical_not_equal : ℕ → ℕ → ℕ
-logical_not_equal a b = from_bool (not (a == b))
 
 -- whether some component is 1, and whether every one is
 unfoldable pub any_of : List ℕ → ℕ

@@ -5,7 +5,7 @@ use Rattle.spv_opcodes.specs.declared.op.TheConstants as op
 use Rattle.spv_opcodes.specs.declared.ext.TheConstants as ext
 use Rattle.spv_value.specs.Arith.{s_negate, i_add, i_sub, i_mul, u_div, u_mod, s_div, s_rem, s_mod, carry, borrow, u_mul_high, s_mul_low, s_mul_high, shift_right_logical, shift_right_arithmetic, shift_left_logical}
 use Rattle.spv_value.specs.Bits.{zip_with, bitwise_or, bitwise_xor, bitwise_and, bitwise_not, bit_reverse, bit_count, bit_field_insert, bit_field_s_extract, bit_field_u_extract, find_i_lsb, find_u_msb, find_s_msb}
-use Rattle.spv_value.specs.Compare.{i_equal, i_not_equal, u_less_than, u_less_than_equal, u_greater_than, u_greater_than_equal, s_less_than, s_less_than_equal, s_greater_than, s_greater_than_equal, logical_not, logical_and, logical_or, logical_equal, logical_not_equal, any_of, all_of, is_one, select}
+use Rattle.spv_value.specs.Compare.{i_equal, i_not_equal, u_less_than, u_less_than_equal, u_greater_than, u_greater_than_equal, s_less_than, s_less_than_equal, s_greater_than, s_greater_than_equal, logical_not, logical_and, logical_or, any_of, all_of, is_one, select}
 use Rattle.spv_value.specs.Ext.{s_abs, s_sign, u_min, u_max, s_min, s_max, u_clamp, s_clamp}
 
 -- Int(c) and Bool(c) are scalars and vectors of c components; a scalar has one
@@ -149,8 +149,8 @@ op_rules w =
     ∷ (op.ANY, Vector any_of)
     ∷ (op.ALL, Vector all_of)
     ∷ (op.LOGICAL_NOT, Bools1 logical_not)
-    ∷ (op.LOGICAL_EQUAL, Bools2 logical_equal)
-    ∷ (op.LOGICAL_NOT_EQUAL, Bools2 logical_not_equal)
+    ∷ (op.LOGICAL_EQUAL, Bools2 i_equal)
+    ∷ (op.LOGICAL_NOT_EQUAL, Bools2 i_not_equal)
     ∷ (op.LOGICAL_OR, Bools2 logical_or)
     ∷ (op.LOGICAL_AND, Bools2 logical_and)
     ∷ (op.I_EQUAL, Ints2 i_equal)

@@ -1,6 +1,6 @@
 // Comparisons and logic at one component. A boolean is a word, 0 or 1.
 ghost use Rattle.std.specs.Prelude.{◌≡◌, ◌<◌};
-ghost use Rattle.spv_value.specs.Compare.{i_equal, i_not_equal, u_less_than, u_less_than_equal, u_greater_than, u_greater_than_equal, s_less_than, s_less_than_equal, s_greater_than, s_greater_than_equal, logical_not, logical_and, logical_or, logical_equal, logical_not_equal, select};
+ghost use Rattle.spv_value.specs.Compare.{i_equal, i_not_equal, u_less_than, u_less_than_equal, u_greater_than, u_greater_than_equal, s_less_than, s_less_than_equal, s_greater_than, s_greater_than_equal, logical_not, logical_and, logical_or, select};
 
 #[tactic(auto, unfolding(crate::specs::Compare::i_equal))]
 pub fn i_equal(a: u32, b: u32) -> u32

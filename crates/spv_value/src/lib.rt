@@ -4,9 +4,11 @@
 mod arith;
 mod bits;
 mod compare;
+mod evaluation;
 mod ext;
 mod fields;
 mod shapes;
 mod words;
 
+pub use evaluation::{eval, ext_eval};
 pub use words::{Answered, Operand};
