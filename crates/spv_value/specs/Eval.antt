@@ -1,6 +1,6 @@
 -- What an instruction makes of its operands. Each operand is a list of words, one a component of w bits.
-use Rattle.std.specs.Prelude.{◌≡◌, ℕ, ◌+◌, ◌<◌, ◌≤◌, ◌⊎◌, ◌==◌, ◌++◌, Bool, List, [], ◌∷◌, Option, Some, None, length, map, nat_lt, slice_index, slice_index_or, if◌then◌else◌}
-use Rattle.std.specs.List.{AllPass}
+use Rattle.std.specs.Prelude.{◌≡◌, ℕ, ◌+◌, ◌<◌, ◌≤◌, ◌⊎◌, ◌==◌, ◌++◌, Bool, List, [], ◌∷◌, Option, Some, None, length, map, nat_lt, IsTrue, slice_index, slice_index_or, if◌then◌else◌}
+use Rattle.std.specs.List.{list_all}
 use Rattle.spv_opcodes.specs.declared.op.TheConstants as op
 use Rattle.spv_opcodes.specs.declared.ext.TheConstants as ext
 use Rattle.spv_value.specs.Arith.{s_negate, i_add, i_sub, i_mul, u_div, u_mod, s_div, s_rem, s_mod, carry, borrow, u_mul_high, s_mul_low, s_mul_high, shift_right_logical, shift_right_arithmetic, shift_left_logical}
@@ -37,8 +37,9 @@ pub data Rule : Type 0 where
 abbrev pub operand : List (List ℕ) → ℕ → List ℕ
 operand xs k = slice_index_or xs k []
 
+-- each word is 0 or 1
 abbrev pub are_booleans : List ℕ → Type 0
-are_booleans ws = AllPass (λ b. nat_lt b 2) ws
+are_booleans ws = IsTrue (list_all (λ b. nat_lt b 2) ws)
 
 -- n operands of as many components each, from one to four
 pub record AreAlike (n : ℕ) (xs : List (List ℕ)) : Type 0 where

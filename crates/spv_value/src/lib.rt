@@ -12,3 +12,6 @@ mod words;
 
 pub use evaluation::{eval, ext_eval};
 pub use words::{Answered, Operand};
+
+#[cfg(test)]
+mod tests;
