@@ -1,7 +1,5 @@
 // What the contracts say, at worked values and at the edges. The wanted values come from a reading of the
 // rules over whole numbers that is apart from this crate.
-#![tactic(auto, unfolding(crate::specs::Words::words_of, crate::specs::Eval::CanEval, crate::specs::Eval::CanExtEval, crate::specs::Eval::op_rules, crate::specs::Eval::ext_rules))]
-
 ghost use Rattle.std.specs.Prelude.{◌≡◌, ℕ, ◌≤◌, ◌<◌, List, [], ◌∷◌, length, ◌⊎◌};
 ghost use Rattle.spv_value.specs.Words.{words_of, operands};
 ghost use Rattle.spv_value.specs.Eval.{AreAlike, AreBooleans, AreFields, IsBooleanVector, IsChoice, are_booleans, CanEval, CanExtEval};
@@ -14,6 +12,7 @@ const EDGES: [u32; 5] = [0, 1, 0x7FFF_FFFF, 0x8000_0000, 0xFFFF_FFFF];
 
 const AMOUNTS: [u32; 5] = [0, 1, 31, 32, 0xFFFF_FFFF];
 
+#[tactic(auto, unfolding(crate::specs::Words::words_of))]
 fn scalar(word: u32) -> Operand
     ensures { words_of result ≡ word ∷ [] }
 {
@@ -26,6 +25,7 @@ fn scalar(word: u32) -> Operand
     }
 }
 
+#[tactic(auto, unfolding(crate::specs::Words::words_of))]
 fn vec2(a: u32, b: u32) -> Operand
     ensures { words_of result ≡ a ∷ b ∷ [] }
 {
@@ -39,6 +39,7 @@ fn vec2(a: u32, b: u32) -> Operand
 }
 
 // The word past `len` does not count.
+#[tactic(auto, unfolding(crate::specs::Words::words_of))]
 fn vec3(a: u32, b: u32, c: u32) -> Operand
     ensures { words_of result ≡ a ∷ b ∷ c ∷ [] }
 {
@@ -51,6 +52,7 @@ fn vec3(a: u32, b: u32, c: u32) -> Operand
     }
 }
 
+#[tactic(auto, unfolding(crate::specs::Words::words_of))]
 fn vec4(a: u32, b: u32, c: u32, d: u32) -> Operand
     ensures { words_of result ≡ a ∷ b ∷ c ∷ d ∷ [] }
 {
@@ -106,6 +108,7 @@ fn field(opcode: u16, base: &Operand, offset: u32, count: u32) -> Answered
     eval(opcode, &[*base, scalar(offset), scalar(count)])
 }
 
+#[tactic(auto, unfolding(crate::specs::Eval::CanEval, crate::specs::Eval::op_rules))]
 fn insert(base: &Operand, bits: &Operand, offset: u32, count: u32) -> Answered
     requires some { 1 ≤ length (words_of base.now) }
     requires few { length (words_of base.now) ≤ 4 }
@@ -226,6 +229,7 @@ fn field_rows(rt: &impl Abort, opcode: u16, rows: &[(u32, u32, u32, u32)])
 }
 
 #[test]
+#[tactic(auto, unfolding(crate::specs::Eval::CanEval, crate::specs::Eval::op_rules, crate::specs::Eval::CanExtEval, crate::specs::Eval::ext_rules))]
 fn worked_values(rt: HostRuntime) {
     assert_eq!(rt;
         two(op::S_DIV, &scalar(0x8000_0000), &scalar(0xFFFF_FFFF)),
@@ -306,6 +310,7 @@ fn worked_values(rt: HostRuntime) {
 }
 
 #[test]
+#[tactic(auto, unfolding(crate::specs::Eval::CanEval, crate::specs::Eval::op_rules))]
 fn arithmetic_at_the_edges(rt: HostRuntime) {
     table(
         &rt,
@@ -433,6 +438,7 @@ fn arithmetic_at_the_edges(rt: HostRuntime) {
 }
 
 #[test]
+#[tactic(auto, unfolding(crate::specs::Eval::CanEval, crate::specs::Eval::op_rules))]
 fn bits_and_comparisons_at_the_edges(rt: HostRuntime) {
     table(
         &rt,
@@ -611,6 +617,7 @@ fn bits_and_comparisons_at_the_edges(rt: HostRuntime) {
 }
 
 #[test]
+#[tactic(auto, unfolding(crate::specs::Eval::CanEval, crate::specs::Eval::op_rules))]
 fn shifts_at_the_edges(rt: HostRuntime) {
     table(
         &rt,
@@ -651,6 +658,7 @@ fn shifts_at_the_edges(rt: HostRuntime) {
 }
 
 #[test]
+#[tactic(auto, unfolding(crate::specs::Eval::CanEval, crate::specs::Eval::op_rules))]
 fn two_results_at_the_edges(rt: HostRuntime) {
     pair_table(
         &rt,
@@ -733,6 +741,7 @@ fn two_results_at_the_edges(rt: HostRuntime) {
 }
 
 #[test]
+#[tactic(auto, unfolding(crate::specs::Eval::CanExtEval, crate::specs::Eval::ext_rules))]
 fn extended_instructions_at_the_edges(rt: HostRuntime) {
     ext_row(&rt, ext::S_ABS, &[0, 1, 0x7FFF_FFFF, 0x8000_0000, 1]);
     ext_row(&rt, ext::S_SIGN, &[0, 1, 1, 0xFFFF_FFFF, 0xFFFF_FFFF]);
@@ -823,6 +832,7 @@ fn extended_instructions_at_the_edges(rt: HostRuntime) {
 
 // Fields whose offset and count add to 32, to 33, and past 2^32.
 #[test]
+#[tactic(auto, unfolding(crate::specs::Eval::CanEval, crate::specs::Eval::op_rules))]
 fn fields_at_the_edges(rt: HostRuntime) {
     field_rows(
         &rt,
@@ -907,6 +917,7 @@ const TRUE: Operand = Operand {
     w3: 0,
 };
 
+#[tactic(auto, unfolding(crate::specs::Eval::CanEval, crate::specs::Eval::op_rules))]
 fn not(a: &Operand) -> Answered
     requires some { 1 ≤ length (words_of a.now) }
     requires few { length (words_of a.now) ≤ 4 }
@@ -935,6 +946,7 @@ fn of_vector(opcode: u16, a: &Operand) -> Answered
     eval(opcode, &[*a])
 }
 
+#[tactic(auto, unfolding(crate::specs::Eval::CanEval, crate::specs::Eval::op_rules))]
 fn select(condition: &Operand, a: &Operand, b: &Operand) -> Answered
     requires some { 1 ≤ length (words_of a.now) }
     requires few { length (words_of a.now) ≤ 4 }
@@ -946,25 +958,40 @@ fn select(condition: &Operand, a: &Operand, b: &Operand) -> Answered
 }
 
 #[test]
+#[tactic(auto, unfolding(crate::specs::Words::words_of, crate::specs::Eval::CanEval, crate::specs::Eval::op_rules))]
 fn logic_of_booleans(rt: HostRuntime) {
     assert_eq!(rt; not(&FALSE), answer(&[1]));
     assert_eq!(rt; not(&TRUE), answer(&[0]));
-    assert_eq!(rt; logic(op::LOGICAL_EQUAL, &FALSE, &FALSE), answer(&[1]));
-    assert_eq!(rt; logic(op::LOGICAL_EQUAL, &FALSE, &TRUE), answer(&[0]));
-    assert_eq!(rt; logic(op::LOGICAL_EQUAL, &TRUE, &FALSE), answer(&[0]));
-    assert_eq!(rt; logic(op::LOGICAL_EQUAL, &TRUE, &TRUE), answer(&[1]));
-    assert_eq!(rt; logic(op::LOGICAL_NOT_EQUAL, &FALSE, &FALSE), answer(&[0]));
-    assert_eq!(rt; logic(op::LOGICAL_NOT_EQUAL, &FALSE, &TRUE), answer(&[1]));
-    assert_eq!(rt; logic(op::LOGICAL_NOT_EQUAL, &TRUE, &FALSE), answer(&[1]));
-    assert_eq!(rt; logic(op::LOGICAL_NOT_EQUAL, &TRUE, &TRUE), answer(&[0]));
-    assert_eq!(rt; logic(op::LOGICAL_OR, &FALSE, &FALSE), answer(&[0]));
-    assert_eq!(rt; logic(op::LOGICAL_OR, &FALSE, &TRUE), answer(&[1]));
-    assert_eq!(rt; logic(op::LOGICAL_OR, &TRUE, &FALSE), answer(&[1]));
-    assert_eq!(rt; logic(op::LOGICAL_OR, &TRUE, &TRUE), answer(&[1]));
-    assert_eq!(rt; logic(op::LOGICAL_AND, &FALSE, &FALSE), answer(&[0]));
-    assert_eq!(rt; logic(op::LOGICAL_AND, &FALSE, &TRUE), answer(&[0]));
-    assert_eq!(rt; logic(op::LOGICAL_AND, &TRUE, &FALSE), answer(&[0]));
-    assert_eq!(rt; logic(op::LOGICAL_AND, &TRUE, &TRUE), answer(&[1]));
+    let first = Operand {
+        len: 4,
+        w0: 0,
+        w1: 0,
+        w2: 1,
+        w3: 1,
+    };
+    let second = Operand {
+        len: 4,
+        w0: 0,
+        w1: 1,
+        w2: 0,
+        w3: 1,
+    };
+    assert_eq!(rt;
+        logic(op::LOGICAL_EQUAL, &first, &second),
+        answer(&[1, 0, 0, 1])
+    );
+    assert_eq!(rt;
+        logic(op::LOGICAL_NOT_EQUAL, &first, &second),
+        answer(&[0, 1, 1, 0])
+    );
+    assert_eq!(rt;
+        logic(op::LOGICAL_OR, &first, &second),
+        answer(&[0, 1, 1, 1])
+    );
+    assert_eq!(rt;
+        logic(op::LOGICAL_AND, &first, &second),
+        answer(&[0, 0, 0, 1])
+    );
     let none = Operand {
         len: 3,
         w0: 0,
@@ -991,10 +1018,10 @@ fn logic_of_booleans(rt: HostRuntime) {
     assert_eq!(rt; of_vector(op::ALL, &last), answer(&[0]));
     assert_eq!(rt; of_vector(op::ALL, &every), answer(&[1]));
     assert_eq!(rt; not(&last), answer(&[1, 1, 0]));
-    assert_eq!(rt; logic(op::LOGICAL_AND, &last, &every), answer(&[0, 0, 1]));
 }
 
 #[test]
+#[tactic(auto, unfolding(crate::specs::Words::words_of))]
 fn choices(rt: HostRuntime) {
     let mixed = Operand {
         len: 3,
@@ -1020,6 +1047,7 @@ fn choices(rt: HostRuntime) {
 }
 
 #[test]
+#[tactic(auto, unfolding(crate::specs::Eval::CanEval, crate::specs::Eval::op_rules, crate::specs::Eval::CanExtEval, crate::specs::Eval::ext_rules))]
 fn vectors_component_by_component(rt: HostRuntime) {
     assert_eq!(rt;
         two(op::I_ADD, &vec2(1, 2), &vec2(30, 40)),
@@ -1077,6 +1105,7 @@ fn vectors_component_by_component(rt: HostRuntime) {
 
 // The bounds may be the wrong way round.
 #[test]
+#[tactic(auto, unfolding(crate::specs::Eval::CanExtEval, crate::specs::Eval::ext_rules))]
 fn clamps(rt: HostRuntime) {
     assert_eq!(rt;
         clamp(
