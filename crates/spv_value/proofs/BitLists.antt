@@ -1,7 +1,7 @@
 -- A number and the list of its bits: Rust's operations on words, and those on lists.
-use Rattle.std.proofs.Common.{◌≡◌, ◌≢◌, ℕ, zero, suc, ◌+◌, ◌-◌, ◌*◌, ◌/◌, ◌%◌, ◌^◌, ◌<◌, ◌≤◌, ◌==◌, min, max, List, [], ◌∷◌, ◌++◌, length, reverse, take, drop, replicate, sum, slice_index, Option, Some, None, option_map, if◌then◌else◌, bit_and, bit_or, bit_xor, count_ones, refl, sym, ap, ap₂, ◌∙◌, arith, pow-suc, pow_pos, add-one, cond, true, false}
-use Rattle.std.specs.Int.{bit_at, reverse_bits_onto}
-use Rattle.std.proofs.lemmas.List.{reverse-append, length-reverse}
+use Rattle.std.proofs.Common.{◌≡◌, ℕ, zero, suc, ◌+◌, ◌-◌, ◌*◌, ◌/◌, ◌%◌, ◌^◌, ◌<◌, ◌≤◌, ◌==◌, min, max, List, [], ◌∷◌, ◌++◌, length, reverse, sum, Option, Some, None, option_map, if◌then◌else◌, bit_and, bit_or, bit_xor, count_ones, refl, sym, ap, ap₂, ◌∙◌, arith, pow-suc, add-one}
+use Rattle.std.specs.Int.{reverse_bits_onto}
+use Rattle.std.proofs.lemmas.List.{length-reverse}
 use Rattle.std.proofs.lemmas.List.Sums.{sum_by-cons}
 use Rattle.std.proofs.lemmas.Grind.{reverse_onto}
 use Rattle.std.proofs.lemmas.Nat.{mod-pow-add, xor_shr}

@@ -1,5 +1,5 @@
 -- Parts of a list of bits, as quotients and remainders by powers of 2, and from them the fields.
-use Rattle.std.proofs.Common.{◌≡◌, ◌≢◌, ℕ, zero, suc, ◌+◌, ◌-◌, ◌*◌, ◌/◌, ◌%◌, ◌^◌, ◌<◌, ◌≤◌, List, [], ◌∷◌, ◌++◌, length, take, drop, replicate, slice_index, bit_and, bit_or, if◌then◌else◌, nat_lt, nat_le, refl, sym, ap, ap₂, ◌∙◌, arith, pow-suc, pow_pos, add-one, div-one, mod-eq_of_lt, lt_of_lt_of_le, le_trans, le_of_eq, pow_mono, one-mul, lit<, inl, inr, subst, zero-mul}
+use Rattle.std.proofs.Common.{◌≡◌, ◌≢◌, ℕ, zero, suc, ◌+◌, ◌-◌, ◌*◌, ◌/◌, ◌%◌, ◌^◌, ◌<◌, ◌≤◌, ◌∷◌, ◌++◌, length, take, drop, replicate, slice_index, bit_and, bit_or, if◌then◌else◌, nat_lt, nat_le, refl, sym, ap, ap₂, ◌∙◌, arith, pow-suc, pow_pos, div-one, mod-eq_of_lt, lt_of_lt_of_le, le_trans, le_of_eq, pow_mono, one-mul, lit<, inl, inr, subst, zero-mul}
 use Rattle.std.proofs.lemmas.List.{length-append}
 use Rattle.std.proofs.lemmas.Nat.{shr-shr, and_mask, or_shifted, field_of, pow-add, shl_whole, shr_below, div_below, mod_below, mul-add-lt}
 use Rattle.std.proofs.lemmas.Nat.Bits.{and_high_mask, ones_shr}

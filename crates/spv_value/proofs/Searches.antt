@@ -1,5 +1,5 @@
 -- The searches, from what Rust's counts of bits say.
-use Rattle.std.proofs.Common.{◌≡◌, ℕ, zero, suc, ◌-◌, ◌*◌, ◌^◌, ◌<◌, ◌≤◌, Option, Some, None, IfSome, IfNone, unwrap_or, true, false, pos, int_lt, if◌then◌else◌, refl, sym, ap, ◌∙◌}
+use Rattle.std.proofs.Common.{◌≡◌, ℕ, ◌-◌, ◌*◌, ◌^◌, ◌<◌, ◌≤◌, Option, Some, None, IfSome, IfNone, unwrap_or, true, false, pos, int_lt, if◌then◌else◌, refl, sym, ap, ◌∙◌}
 use Rattle.spv_value.proofs.BitLists.{highest_is, highest_none, highest_turned}
 use Rattle.spv_value.specs.Numbers.{signed, wrapped}
 use Rattle.spv_value.specs.Bits.{bits_of, highest, place_word, find_i_lsb, find_u_msb, find_s_msb}

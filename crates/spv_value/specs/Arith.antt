@@ -1,5 +1,5 @@
 -- The arithmetic instructions at components of w bits.
-use Rattle.std.specs.Prelude.{ℕ, ◌+◌, ◌-◌, ◌*◌, ◌/◌, ◌%◌, ◌^◌, ◌==◌, ℤ, pos, negsuc, neg_ℤ, ◌+ℤ◌, ◌-ℤ◌, ◌*ℤ◌, nat_lt, int_div, int_rem, if◌then◌else◌}
+use Rattle.std.specs.Prelude.{ℕ, ◌+◌, ◌*◌, ◌/◌, ◌%◌, ◌^◌, ◌==◌, ℤ, pos, negsuc, neg_ℤ, ◌+ℤ◌, ◌-ℤ◌, ◌*ℤ◌, nat_lt, int_div, int_rem, if◌then◌else◌}
 use Rattle.std.specs.Int.{from_bool, int_rem_euclid}
 use Rattle.spv_value.specs.Numbers.{signed, wrapped, div_down}
 

@@ -1,5 +1,5 @@
 -- The instructions on bits: each reads a component as the list of its w bits, lowest first.
-use Rattle.std.specs.Prelude.{ℕ, zero, suc, ◌+◌, ◌-◌, ◌*◌, ◌/◌, ◌%◌, ◌^◌, ◌==◌, Option, Some, None, List, [], ◌∷◌, ◌++◌, pos, negsuc, ◌-ℤ◌, max, min, sum, reverse, take, drop, replicate, slice_index, option_map, nat_lt, nat_le, if◌then◌else◌}
+use Rattle.std.specs.Prelude.{ℕ, zero, suc, ◌+◌, ◌-◌, ◌*◌, ◌/◌, ◌%◌, ◌==◌, Option, Some, None, List, [], ◌∷◌, ◌++◌, pos, negsuc, ◌-ℤ◌, max, min, sum, reverse, take, drop, replicate, slice_index, option_map, nat_le, if◌then◌else◌}
 use Rattle.std.specs.Int.{is_negative}
 use Rattle.spv_value.specs.Numbers.{signed, wrapped}
 

@@ -1,4 +1,4 @@
-use Rattle.std.proofs.Common.{◌∙◌, sym, ap, ap₂, arith, int_div, le_trans}
+use Rattle.std.proofs.Common.{◌∙◌, sym, ap, ap₂, arith, int_div}
 use Rattle.std.specs.Int.{w32, cast_signed, cast_unsigned, int_wrapping_div}
 use Rattle.spv_value.proofs.Readings.{reading, s_div_is, written_wrapped, abs_div, signed_low}
 use Rattle.spv_value.specs.Numbers.{signed}

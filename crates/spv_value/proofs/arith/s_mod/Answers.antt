@@ -1,8 +1,7 @@
-use Rattle.std.proofs.Common.{◌∙◌, sym, ap, ap₂, ◌≡◌, ◌≢◌, pos, int_lt, ◌+ℤ◌, ◌<◌, ◌^◌, subst}
+use Rattle.std.proofs.Common.{◌∙◌, sym, ap, ap₂, ◌≢◌, pos, int_lt, ◌+ℤ◌, ◌<◌, ◌^◌, subst}
 use Rattle.std.specs.Int.{w32, cast_unsigned, int_rem_euclid}
 use Rattle.std.specs.Int.Signed.{mag}
 use Rattle.spv_value.proofs.Readings.{reading, passed, s_mod_is, written, written_fits, wrapped_pos, int_mod_zero, int_mod_negative, int_mod_positive, negative_from, not_negative_from, zero_from, rem_sum_low, signed_mag}
-use Rattle.spv_value.specs.Arith.{int_mod}
 use Rattle.spv_value.specs.Numbers.{signed, wrapped}
 use Rattle.spv_value.proofs.arith.s_mod.Goals as goal
 

@@ -1,4 +1,4 @@
-use Rattle.std.proofs.Common.{◌∙◌, ◌≡◌, ◌≤◌, ◌+◌, ◌-◌, ◌*◌, ◌^◌, ◌%◌, ap, ap₂, arith, bit_and, bit_or, nat_lt, if◌then◌else◌}
+use Rattle.std.proofs.Common.{◌∙◌, ◌≤◌, ◌+◌, ◌-◌, ◌*◌, ◌^◌, ◌%◌, ap, ap₂, arith, bit_and, bit_or, nat_lt, if◌then◌else◌}
 use Rattle.spv_value.proofs.FieldLists.{inserted, insert_is, past_insert}
 use Rattle.spv_value.proofs.fields.bit_field_insert.Goals as goal
 

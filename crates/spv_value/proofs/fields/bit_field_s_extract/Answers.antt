@@ -1,4 +1,4 @@
-use Rattle.std.proofs.Common.{◌∙◌, ◌≡◌, ◌≤◌, ◌<◌, ◌+◌, ◌-◌, ◌^◌, ◌/◌, ap, ap₂, sym, arith, bit_and, bit_or, pow_pos}
+use Rattle.std.proofs.Common.{◌∙◌, ◌≤◌, ◌<◌, ◌+◌, ◌-◌, ◌^◌, ◌/◌, ap, ap₂, sym, arith, bit_and, bit_or, pow_pos}
 use Rattle.std.proofs.lemmas.Nat.{mod_below}
 use Rattle.spv_value.proofs.FieldLists.{taken, ones_above, s_extract_none, s_extract_low, s_extract_high, past_s_extract}
 use Rattle.spv_value.specs.Bits.{bit_field_s_extract}

@@ -1,7 +1,7 @@
-use Rattle.std.proofs.Common.{◌∙◌, ap, ap₂, sym, arith}
+use Rattle.std.proofs.Common.{◌∙◌, ap, sym, arith}
 use Rattle.spv_value.proofs.WordLists.{condition_alike, values_alike, operand_is, len_is, scalar_is, choice_each, choice_first, choice_second}
 use Rattle.spv_value.specs.Words.{answered, operands}
-use Rattle.spv_value.specs.Eval.{operand, zip_with3}
+use Rattle.spv_value.specs.Eval.{operand}
 use Rattle.spv_value.specs.Compare.{select}
 use Rattle.spv_value.proofs.shapes.select.Goals as goal
 
