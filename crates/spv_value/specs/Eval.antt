@@ -8,7 +8,8 @@ use Rattle.spv_value.specs.Bits.{zip_with, bitwise_or, bitwise_xor, bitwise_and,
 use Rattle.spv_value.specs.Compare.{i_equal, i_not_equal, u_less_than, u_less_than_equal, u_greater_than, u_greater_than_equal, s_less_than, s_less_than_equal, s_greater_than, s_greater_than_equal, logical_not, logical_and, logical_or, any_of, all_of, is_one, select}
 use Rattle.spv_value.specs.Ext.{s_abs, s_sign, u_min, u_max, s_min, s_max, u_clamp, s_clamp}
 
--- Int(c) and Bool(c) are scalars and vectors of c components; a scalar has one
+-- The form of an instruction's operands, and what it makes of their components. Int(c) and Bool(c) are scalars and vectors of c
+-- components; a scalar has one.
 pub data Rule : Type 0 where
   -- Int(c)
   Ints1 : (ℕ → ℕ) → Rule
@@ -38,8 +39,8 @@ abbrev pub operand : List (List ℕ) → ℕ → List ℕ
 operand xs k = slice_index_or xs k []
 
 -- each word is 0 or 1
-abbrev pub are_booleans : List ℕ → Type 0
-are_booleans ws = IsTrue (list_all (λ b. nat_lt b 2) ws)
+abbrev pub AreBooleanWords : List ℕ → Type 0
+AreBooleanWords ws = IsTrue (list_all (λ b. nat_lt b 2) ws)
 
 -- n operands of as many components each, from one to four
 pub record AreAlike (n : ℕ) (xs : List (List ℕ)) : Type 0 where
@@ -50,7 +51,7 @@ pub record AreAlike (n : ℕ) (xs : List (List ℕ)) : Type 0 where
 
 pub record AreBooleans (n : ℕ) (xs : List (List ℕ)) : Type 0 where
   pub vectors : AreAlike n xs
-  pub booleans : (k : ℕ) → k < n → are_booleans (operand xs k)
+  pub booleans : (k : ℕ) → k < n → AreBooleanWords (operand xs k)
 
 -- n such operands, and a scalar offset and count behind them
 pub record AreFields (n : ℕ) (xs : List (List ℕ)) : Type 0 where
@@ -65,7 +66,7 @@ pub record IsBooleanVector (xs : List (List ℕ)) : Type 0 where
   pub count : length xs ≡ 1
   pub some : 2 ≤ length (operand xs 0)
   pub few : length (operand xs 0) ≤ 4
-  pub booleans : are_booleans (operand xs 0)
+  pub booleans : AreBooleanWords (operand xs 0)
 
 pub record IsChoice (xs : List (List ℕ)) : Type 0 where
   pub count : length xs ≡ 3
@@ -73,7 +74,7 @@ pub record IsChoice (xs : List (List ℕ)) : Type 0 where
   pub few : length (operand xs 1) ≤ 4
   pub alike : length (operand xs 2) ≡ length (operand xs 1)
   pub condition : (length (operand xs 0) ≡ 1) ⊎ (length (operand xs 0) ≡ length (operand xs 1))
-  pub booleans : are_booleans (operand xs 0)
+  pub booleans : AreBooleanWords (operand xs 0)
 
 abbrev pub Suits : Rule → List (List ℕ) → Type 0
 Suits (Ints1 f) xs = AreAlike 1 xs

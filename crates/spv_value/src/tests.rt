@@ -2,7 +2,7 @@
 // rules over whole numbers that is apart from this crate.
 ghost use Rattle.std.specs.Prelude.{◌≡◌, ℕ, ◌≤◌, ◌<◌, List, [], ◌∷◌, length, ◌⊎◌};
 ghost use Rattle.spv_value.specs.Words.{words_of, operands};
-ghost use Rattle.spv_value.specs.Eval.{AreAlike, AreBooleans, AreFields, IsBooleanVector, IsChoice, are_booleans, CanEval, CanExtEval};
+ghost use Rattle.spv_value.specs.Eval.{AreAlike, AreBooleans, AreFields, IsBooleanVector, IsChoice, AreBooleanWords, CanEval, CanExtEval};
 
 use crate::{Answered, Operand, eval, ext_eval};
 use spv_opcodes::op;
@@ -251,7 +251,7 @@ const TRUE: Operand = Operand {
 fn not(a: &Operand) -> Answered
     requires some { 1 ≤ length (words_of a.now) }
     requires few { length (words_of a.now) ≤ 4 }
-    requires booleans { are_booleans (words_of a.now) }
+    requires booleans { AreBooleanWords (words_of a.now) }
 {
     eval(op::LOGICAL_NOT, &[*a])
 }
@@ -261,8 +261,8 @@ fn logic(opcode: u16, a: &Operand, b: &Operand) -> Answered
     requires some { 1 ≤ length (words_of a.now) }
     requires few { length (words_of a.now) ≤ 4 }
     requires alike { length (words_of b.now) ≡ length (words_of a.now) }
-    requires left { are_booleans (words_of a.now) }
-    requires right { are_booleans (words_of b.now) }
+    requires left { AreBooleanWords (words_of a.now) }
+    requires right { AreBooleanWords (words_of b.now) }
 {
     eval(opcode, &[*a, *b])
 }
@@ -271,7 +271,7 @@ fn of_vector(opcode: u16, a: &Operand) -> Answered
     requires opcode { (xs : List (List ℕ)) → IsBooleanVector xs → CanEval 32 opcode xs }
     requires some { 2 ≤ length (words_of a.now) }
     requires few { length (words_of a.now) ≤ 4 }
-    requires booleans { are_booleans (words_of a.now) }
+    requires booleans { AreBooleanWords (words_of a.now) }
 {
     eval(opcode, &[*a])
 }
@@ -282,7 +282,7 @@ fn select(condition: &Operand, a: &Operand, b: &Operand) -> Answered
     requires few { length (words_of a.now) ≤ 4 }
     requires alike { length (words_of b.now) ≡ length (words_of a.now) }
     requires condition { (length (words_of condition.now) ≡ 1) ⊎ (length (words_of condition.now) ≡ length (words_of a.now)) }
-    requires booleans { are_booleans (words_of condition.now) }
+    requires booleans { AreBooleanWords (words_of condition.now) }
 {
     eval(op::SELECT, &[*condition, *a, *b])
 }
