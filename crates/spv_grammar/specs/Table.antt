@@ -1,5 +1,5 @@
 -- The instruction table: the section and the operands of each opcode.
-use Rattle.std.specs.Prelude.{ℕ, Bool, cond, ◌==◌, List, [], ◌∷◌, Option, Some, None}
+use Rattle.std.specs.Prelude.{ℕ, cond, ◌==◌, List, [], ◌∷◌, Option, Some, None}
 use Rattle.std.specs.Option.{option_or}
 use Rattle.spv_grammar.specs.declared.kind.Enumerant.TheVariants.{Capability, AddressingModel, MemoryModel, ExecutionModel, LiteralMode, IdMode, StorageClass, FunctionControl, LoopControl, SelectionControl}
 use Rattle.spv_grammar.specs.declared.kind.Kind.{Kind}

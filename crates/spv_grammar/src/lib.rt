@@ -2,6 +2,7 @@
 #![tactic(auto)]
 
 pub mod enumerants;
+pub mod fronts;
 pub mod kind;
 pub mod operands;
 pub mod section;
