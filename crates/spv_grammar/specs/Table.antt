@@ -24,6 +24,8 @@ abbrev pub row_at : List (ℕ × Shape) → ℕ → Option Shape
 row_at [] opcode = None
 row_at (row ∷ rows) opcode = cond (opcode == row.0) (Some row.1) (row_at rows opcode)
 
+-- Where a row has no cap of ids it has 65,535: that is any number, since an instruction has no more than 65,535 words.
+
 -- instructions before types, and line marks
 abbrev pub module_rows : List (ℕ × Shape)
 module_rows =
