@@ -3,7 +3,9 @@ use Rattle.std.proofs.Common.{◌≡◌, ℕ, zero, suc, ◌+◌, ◌*◌, ◌%�
 use Rattle.std.specs.Option.{option_map, option_and_then, option_or}
 use Rattle.std.specs.List.{list_any, list_all, prefix_len}
 use Rattle.std.proofs.lemmas.List.Folds.{list_any-append, length-prefix_len}
+use Rattle.std.proofs.lemmas.Bool.{and_parts, not-true, or_parts}
 use Rattle.std.proofs.lemmas.Bool.Decides.{nat_tests}
+use Rattle.std.proofs.Math.Bool.{or-false}
 use Rattle.spv_grammar.specs.declared.kind.Role.{Role}
 use Rattle.spv_grammar.specs.declared.kind.Role.TheVariants.{Opcode, TypeId, DefinedId, UsedId, Literal, Octets, UnknownEnumerant, BadOctets}
 use Rattle.spv_grammar.specs.declared.kind.Kind.{Kind}
@@ -30,13 +32,9 @@ abbrev Passes : (Role → Bool) → Bool → Option Taken → Type 0
 Passes p b None = Unit {0}
 Passes p b (Some t) = list_any p t.roles ≡ b
 
-no_more : (b : Bool) → (b || false) ≡ b
-no_more true = refl
-no_more false = refl
-
 one-passes : (p : Role → Bool) (b : Bool) (role : Role) (ws : List ℕ) → p role ≡ b → Passes p b (one role ws)
 one-passes p b role [] h = tt
-one-passes p b role (w ∷ ws) h = no_more (p role) ∙ h
+one-passes p b role (w ∷ ws) h = or-false (p role) ∙ h
 
 list_any-replicate : (p : Role → Bool) (role : Role) (n : ℕ) → p role ≡ false → list_any p (replicate n role) ≡ false
 list_any-replicate p role zero h = refl
@@ -259,13 +257,9 @@ typed_where_row_has_result_type opcode words roles o e =
 abbrev pub Alone : List Role → Type 0
 Alone roles = list_any is_front (drop (prefix_len is_front roles) roles) ≡ false
 
-first_false : (a b : Bool) → (a || b) ≡ false → a ≡ false
-first_false true b h = h
-first_false false b h = refl
-
 alone-none : (roles : List Role) → list_any is_front roles ≡ false → Alone roles
 alone-none [] h = refl
-alone-none (role ∷ roles) h = rw (first_false (is_front role) (list_any is_front roles) h) h
+alone-none (role ∷ roles) h = let fails = (or_parts (is_front role) (list_any is_front roles) h).0 in rw fails h
 
 alone-front : (role : Role) (roles : List Role) → is_front role ≡ true → Alone roles → Alone (role ∷ roles)
 alone-front role roles h k =
@@ -297,15 +291,11 @@ operands-alone kinds h ws = some-alone (operand_roles kinds ws) (subst (λ b. Al
 abbrev in_order : List Kind → Bool
 in_order kinds = not (list_any (gives is_front) (operand_kinds kinds))
 
-not_true : (b : Bool) → not b ≡ true → b ≡ false
-not_true true h = sym h
-not_true false h = refl
-
 kinds-alone : (kinds : List Kind) → in_order kinds ≡ true → (ws : List ℕ) → AllAlone (operand_roles kinds ws)
 kinds-alone (ResultType ∷ ResultId ∷ kinds) h ws =
-    operand-alone TypeId (ResultId ∷ kinds) refl (operand-alone DefinedId kinds refl (operands-alone kinds (not_true (list_any (gives is_front) kinds) h))) ws
-kinds-alone (ResultId ∷ kinds) h ws = operand-alone DefinedId kinds refl (operands-alone kinds (not_true (list_any (gives is_front) kinds) h)) ws
-kinds-alone kinds h ws = operands-alone kinds (not_true (list_any (gives is_front) kinds) h) ws
+    operand-alone TypeId (ResultId ∷ kinds) refl (operand-alone DefinedId kinds refl (operands-alone kinds (not-true (list_any (gives is_front) kinds) h))) ws
+kinds-alone (ResultId ∷ kinds) h ws = operand-alone DefinedId kinds refl (operands-alone kinds (not-true (list_any (gives is_front) kinds) h)) ws
+kinds-alone kinds h ws = operands-alone kinds (not-true (list_any (gives is_front) kinds) h) ws
 
 -- a row that an opcode has passes a test that all rows pass
 abbrev Holds : (Shape → Bool) → Option Shape → Type 0
@@ -320,19 +310,11 @@ or-holds : (test : Shape → Bool) (x y : Option Shape) → Holds test x → Hol
 or-holds test None y h k = k
 or-holds test (Some shape) y h k = h
 
-first_true : (a b : Bool) → (a && b) ≡ true → a ≡ true
-first_true true b h = refl
-first_true false b h = h
-
-second_true : (a b : Bool) → (a && b) ≡ true → b ≡ true
-second_true true b h = h
-second_true false b h = cc
-
 row_at-holds : (test : Shape → Bool) (rows : List (ℕ × Shape)) (opcode : ℕ) → list_all (λ row. test row.1) rows ≡ true → Holds test (row_at rows opcode)
 row_at-holds test [] opcode h = tt
 row_at-holds test (row ∷ rows) opcode h =
-    cond-holds test (opcode == row.0) (Some row.1) (row_at rows opcode) (first_true (test row.1) (list_all (λ row. test row.1) rows) h)
-    (row_at-holds test rows opcode (second_true (test row.1) (list_all (λ row. test row.1) rows) h))
+    let both = and_parts (test row.1) (list_all (λ row. test row.1) rows) h in
+    cond-holds test (opcode == row.0) (Some row.1) (row_at rows opcode) both.0 (row_at-holds test rows opcode both.1)
 
 abbrev shape_in_order : Shape → Bool
 shape_in_order shape = in_order shape.kinds
@@ -364,7 +346,7 @@ row-alone (Some shape) h ws = fitted-alone (operand_roles shape.kinds ws) (kinds
 inner_row-passes : (row : Option Shape) → Holds shape_in_order row → (ws : List ℕ) → AnswerPasses is_front false (row_roles (option_map inner_shape row) ws)
 inner_row-passes None h ws = tt
 inner_row-passes (Some shape) h ws =
-    subst (λ b. AnswerPasses is_front b (row_roles (Some (inner_shape shape)) ws)) (not_true (list_any (gives is_front) (operand_kinds shape.kinds)) h)
+    subst (λ b. AnswerPasses is_front b (row_roles (Some (inner_shape shape)) ws)) (not-true (list_any (gives is_front) (operand_kinds shape.kinds)) h)
     (row-passes is_front front-fails (Some (inner_shape shape)) ws)
 
 either : (P : Result (List Role) ℕ → Type 0) (b : Bool) (x y : Result (List Role) ℕ) → P x → P y → P (cond b x y)

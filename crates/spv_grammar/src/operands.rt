@@ -409,7 +409,8 @@ pub fn count_of(word: u32) -> u16
 ///
 /// Answers the rule that the words break, if they break one: 106 where the profile does not have the opcode,
 /// or an OpSpecConstantOp names one that it does not have or OpSpecConstantOp itself; 107 where the words do
-/// not fit the operands, or there is no word. Then what was added to `roles` says nothing. Strings and
+/// not fit the operands, or there is no word. Then what was added to `roles` says nothing, nor
+/// does it where memory is wanting. Strings and
 /// enumerants that the profile does not have break no rule here: their words are added as
 /// `Role::BadOctets` and `Role::UnknownEnumerant`.
 #[tactic(auto, unfolding(crate::specs::Operands::roles_of))]
