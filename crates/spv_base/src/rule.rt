@@ -1,20 +1,55 @@
-// The rules of the profile, by their numbers.
+// The rules of the profile, by their numbers. A module is refused for one of them, at a word offset.
 
+/// The input has fewer than 20 bytes.
 pub const SHORT_INPUT: u16 = 1;
+
+/// The input's length in bytes is no multiple of 4.
 pub const ODD_LENGTH: u16 = 2;
+
+/// The first word is the magic number in neither byte order.
 pub const NOT_SPIRV: u16 = 3;
+
+/// The version is not 1.6.
 pub const VERSION: u16 = 101;
+
+/// The schema is not 0.
 pub const SCHEMA: u16 = 102;
+
+/// The bound is 0 or above 4,194,303, or an id is 0 or not below the bound.
 pub const BOUND: u16 = 103;
+
+/// An instruction's word count is 0.
 pub const ZERO_COUNT: u16 = 104;
+
+/// An instruction's word count passes the module's last word.
 pub const PAST_END: u16 = 105;
+
+/// The profile does not have the opcode, or the one that an OpSpecConstantOp names.
 pub const UNKNOWN_OPCODE: u16 = 106;
+
+/// The words of an instruction do not fit its operands.
 pub const OPERAND_COUNT: u16 = 107;
+
+/// A string has no octet of zero, is not UTF-8, or is padded with another octet than zero.
 pub const BAD_STRING: u16 = 108;
+
+/// The profile does not have an enumerant, a mask or the name of an import.
 pub const BAD_ENUMERANT: u16 = 109;
+
+/// The module has a form that is not built yet. This rule goes once all forms are.
 pub const NOT_YET: u16 = 190;
+
+/// An instruction's section comes before one that has begun.
 pub const LAYOUT_ORDER: u16 = 201;
+
+/// There is no OpCapability Shader.
 pub const MISSING_CAPABILITY: u16 = 202;
+
+/// There is no OpMemoryModel, or this is a second one.
 pub const MISSING_MEMORY_MODEL: u16 = 203;
+
+/// There is no OpEntryPoint.
 pub const MISSING_ENTRY_POINT: u16 = 204;
+
+/// A function or a block begins, ends or has an instruction where it may not.
 pub const FUNCTION_SHAPE: u16 = 205;

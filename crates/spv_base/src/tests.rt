@@ -1,4 +1,4 @@
-use crate::{ByteList, Id, Words};
+use crate::{ByteList, Fault, Id, NoMemory, Refusal, Words, rule};
 use std::test::Fail;
 
 #[test]
@@ -28,5 +28,22 @@ fn an_id_is_above_zero(rt: HostRuntime) -> Result<(), Fail> {
     assert_eq!(rt; Id::new(0), None);
     let id = Id::new(5).ok_or("5 is an id")?;
     assert_eq!(rt; id.number(), 5);
+    Ok(())
+}
+
+#[test]
+fn faults_are_printed(rt: HostRuntime) -> Result<(), Fail> {
+    let refusal = Refusal {
+        rule: rule::PAST_END,
+        at: 136,
+    };
+    for (fault, text) in [
+        (Fault::Refused(refusal), "rule 105 is broken at word 136"),
+        (Fault::Nesting, "a body nests too deep"),
+        (Fault::from(NoMemory), "out of memory"),
+    ] {
+        let printed = format!(in rt.alloc(); "{fault}")?;
+        assert_eq!(rt; printed.as_str(), text);
+    }
     Ok(())
 }

@@ -1,3 +1,4 @@
 pub mod OperandSteps
 pub mod Rows
 pub mod RoleCounts
+pub mod FrontParts

@@ -1,5 +1,5 @@
 -- Reading one operand is a step of reading all.
-use Rattle.std.proofs.Common.{◌≡◌, ℕ, List, [], ◌∷◌, ◌++◌, Option, Some, None, refl, sym, ap, subst, append_assoc, ◌+◌, ◌<◌, suc, length, drop, get_or, add-one}
+use Rattle.std.proofs.Common.{◌≡◌, ℕ, List, ◌∷◌, ◌++◌, Option, Some, None, refl, sym, ap, subst, append_assoc, ◌+◌, ◌<◌, suc, length, drop, get_or, add-one}
 use Rattle.std.proofs.Math.Seq.{drop-cons}
 use Rattle.std.specs.Option.{option_map, option_and_then}
 use Rattle.spv_grammar.specs.declared.kind.Role.{Role}

@@ -1,12 +1,12 @@
 -- Each word of an instruction has one part.
-use Rattle.std.proofs.Common.{◌≡◌, ℕ, suc, ◌+◌, ◌-◌, ◌*◌, ◌%◌, ◌<◌, ◌≤◌, Bool, true, false, cond, ◌==◌, ◌&&◌, ◌||◌, nat_le, nat_lt, List, [], ◌∷◌, ◌++◌, length, take, drop, replicate, Option, Some, None, Result, Ok, Err, refl, sym, ap, subst, ◌∙◌, arith}
+use Rattle.std.proofs.Common.{◌≡◌, ℕ, suc, ◌+◌, ◌*◌, ◌%◌, ◌<◌, ◌≤◌, Bool, true, false, cond, ◌==◌, ◌&&◌, ◌||◌, nat_le, nat_lt, List, [], ◌∷◌, ◌++◌, length, take, replicate, Option, Some, None, Result, Ok, Err, refl, ap, subst, arith}
 use Rattle.std.specs.Option.{option_map, option_and_then}
 use Rattle.std.proofs.lemmas.List.{length-append, length-replicate, length-drop}
 use Rattle.std.proofs.lemmas.List.Quantifiers.{position-Some}
 use Rattle.std.specs.List.{position}
 use Rattle.std.specs.Option.{unwrap_or}
 use Rattle.spv_grammar.specs.declared.kind.Role.{Role}
-use Rattle.spv_grammar.specs.declared.kind.Role.TheVariants.{Opcode, TypeId, DefinedId, UsedId, Literal, Octets, UnknownEnumerant, BadOctets}
+use Rattle.spv_grammar.specs.declared.kind.Role.TheVariants.{Opcode, TypeId, DefinedId, UsedId, Literal, UnknownEnumerant}
 use Rattle.spv_grammar.specs.declared.kind.Kind.{Kind}
 use Rattle.spv_grammar.specs.declared.kind.Kind.TheVariants.{ResultType, ResultId, Id, OptionalId, Ids, IdPairs, Number, SomeNumbers, Numbers, Weights, Cases, Text, OptionalText, SetName, One, MemoryOperands, Decoration, ExtInst}
 use Rattle.spv_opcodes.specs.declared.op.TheConstants as op
@@ -14,7 +14,7 @@ use Rattle.spv_opcodes.specs.declared.decoration.TheConstants as decoration
 use Rattle.spv_grammar.specs.Enumerants.{is_known, is_memory_operands, is_aligned, is_bare_decoration, is_numbered_decoration, is_builtin, ext_operands}
 use Rattle.spv_grammar.specs.Table.{Shape, row_of}
 use Rattle.spv_grammar.specs.Text.{text_words, has_zero_octet}
-use Rattle.spv_grammar.specs.Operands.{Taken, none, one, all, all_if, after, mark, in_turn, text_by, text_role, set_name_role, memory_operands, builtin, decorated, extended, taken, operand_roles, fitted, behind, row_roles, operand_kinds, inner_shape, inner_roles, spec_constant_roles, body_roles, opcode_of, roles_of}
+use Rattle.spv_grammar.specs.Operands.{Taken, none, one, all, all_if, after, mark, in_turn, text_by, text_role, set_name_role, memory_operands, builtin, decorated, extended, taken, operand_roles, fitted, behind, row_roles, inner_shape, inner_roles, spec_constant_roles, body_roles, opcode_of, roles_of}
 
 -- the parts taken and the words left are n
 abbrev Counts : Option Taken → ℕ → Type 0
@@ -67,7 +67,7 @@ text-counts role (w ∷ ws) =
 memory-counts : (mask : ℕ) (ws : List ℕ) → Counts (memory_operands mask ws) (suc (length ws))
 memory-counts mask ws =
     after-counts (cond (is_aligned mask) (one Literal ws) (none ws)) (mark (is_memory_operands mask)) (length ws)
-      (cond-counts (is_aligned mask) (one Literal ws) (none ws) (length ws) (one-counts Literal ws) (none-counts ws))
+    (cond-counts (is_aligned mask) (one Literal ws) (none ws) (length ws) (one-counts Literal ws) (none-counts ws))
 
 builtin-counts : (ws : List ℕ) → Counts (builtin ws) (length ws)
 builtin-counts [] = tt
@@ -159,7 +159,7 @@ spec_constant-length (t ∷ []) = tt
 spec_constant-length (t ∷ r ∷ []) = tt
 spec_constant-length (t ∷ r ∷ o ∷ ws) =
     behind-length (TypeId ∷ DefinedId ∷ Literal ∷ []) (inner_roles o ws) (length ws) (length (t ∷ r ∷ o ∷ ws)) (omega arith)
-      (cond-length (o == op.SPEC_CONSTANT_OP) (Err 106) (row_roles (option_map inner_shape (row_of o)) ws) (length ws) tt (row-length (option_map inner_shape (row_of o)) ws))
+    (cond-length (o == op.SPEC_CONSTANT_OP) (Err 106) (row_roles (option_map inner_shape (row_of o)) ws) (length ws) tt (row-length (option_map inner_shape (row_of o)) ws))
 
 body-length : (o : ℕ) (ws : List ℕ) → AnswerIs (body_roles o ws) (length ws)
 body-length o ws = cond-length (o == op.SPEC_CONSTANT_OP) (spec_constant_roles ws) (row_roles (row_of o) ws) (length ws) (spec_constant-length ws) (row-length (row_of o) ws)

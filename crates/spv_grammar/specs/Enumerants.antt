@@ -1,5 +1,5 @@
 -- The enumerants and masks that the profile has.
-use Rattle.std.specs.Prelude.{ℕ, ◌+◌, Bool, true, false, ◌==◌, ◌&&◌, not, nat_le, List, [], ◌∷◌, Option, Some, None, bit_and, if◌then◌else◌}
+use Rattle.std.specs.Prelude.{ℕ, ◌+◌, Bool, ◌==◌, not, List, [], ◌∷◌, Option, Some, None, bit_and, if◌then◌else◌}
 use Rattle.std.specs.List.{list_any}
 use Rattle.spv_grammar.specs.declared.kind.Enumerant.{Enumerant}
 use Rattle.spv_grammar.specs.declared.kind.Enumerant.TheVariants.{Capability, AddressingModel, MemoryModel, ExecutionModel, LiteralMode, IdMode, StorageClass, FunctionControl, LoopControl, SelectionControl}

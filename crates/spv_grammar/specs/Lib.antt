@@ -3,3 +3,4 @@ pub mod Table
 pub mod Text
 pub mod Operands
 pub mod Roles
+pub mod Fronts

@@ -1,7 +1,7 @@
 -- Which words name an id, and which show that an instruction is not of the profile.
 use Rattle.std.specs.Prelude.{Bool, true, false}
 use Rattle.spv_grammar.specs.declared.kind.Role.{Role}
-use Rattle.spv_grammar.specs.declared.kind.Role.TheVariants.{Opcode, TypeId, DefinedId, UsedId, Literal, Octets, UnknownEnumerant, BadOctets}
+use Rattle.spv_grammar.specs.declared.kind.Role.TheVariants.{Opcode, TypeId, DefinedId, UsedId, UnknownEnumerant, BadOctets}
 
 abbrev pub is_type_id : Role → Bool
 is_type_id TypeId = true

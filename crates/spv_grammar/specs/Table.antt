@@ -1,5 +1,5 @@
 -- The instruction table: the section and the operands of each opcode.
-use Rattle.std.specs.Prelude.{ℕ, Bool, cond, ◌==◌, List, [], ◌∷◌, Option, Some, None}
+use Rattle.std.specs.Prelude.{ℕ, cond, ◌==◌, List, [], ◌∷◌, Option, Some, None}
 use Rattle.std.specs.Option.{option_or}
 use Rattle.spv_grammar.specs.declared.kind.Enumerant.TheVariants.{Capability, AddressingModel, MemoryModel, ExecutionModel, LiteralMode, IdMode, StorageClass, FunctionControl, LoopControl, SelectionControl}
 use Rattle.spv_grammar.specs.declared.kind.Kind.{Kind}
@@ -23,6 +23,8 @@ shape row = record { section = row.section; kinds = row.kinds.now }
 abbrev pub row_at : List (ℕ × Shape) → ℕ → Option Shape
 row_at [] opcode = None
 row_at (row ∷ rows) opcode = cond (opcode == row.0) (Some row.1) (row_at rows opcode)
+
+-- Where a row has no cap of ids it has 65,535: that is any number, since an instruction has no more than 65,535 words.
 
 -- instructions before types, and line marks
 abbrev pub module_rows : List (ℕ × Shape)

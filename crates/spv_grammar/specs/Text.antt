@@ -1,5 +1,5 @@
 -- Strings: octets of UTF-8, four in a word, ended by an octet of zero and padded with zeros to a whole word.
-use Rattle.std.specs.Prelude.{ℕ, suc, Bool, true, false, ◌==◌, ◌&&◌, List, length, take, drop, Option, Some, None, codes, position, unwrap_or, nat_eq}
+use Rattle.std.specs.Prelude.{ℕ, suc, Bool, false, ◌==◌, ◌&&◌, List, length, take, drop, Option, Some, None, codes, position, unwrap_or, nat_eq}
 use Rattle.std.specs.List.{list_any, list_all}
 use Rattle.std.specs.Option.{option_map}
 use Rattle.std.specs.Cmp.Lexicographic.{pointwise}

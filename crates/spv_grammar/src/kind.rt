@@ -13,11 +13,13 @@ pub enum Role {
     UsedId,
     /// A number, an enumerant, a mask or an inner opcode.
     Literal,
-    /// Four octets of a string.
+    /// Four octets of a string, its end and its padding included.
     Octets,
-    /// An enumerant or a mask that the profile does not have.
+    /// An enumerant or a mask that the profile does not have, or four octets of an import's name that it does
+    /// not have.
     UnknownEnumerant,
-    /// Four octets of what should be a string and is none.
+    /// Four octets of what should be a string and is none: it has no octet of zero, is not UTF-8, or is padded
+    /// with another octet than zero.
     BadOctets,
 }
 
@@ -59,7 +61,7 @@ impl Role {
         matches!(self, Role::Opcode | Role::TypeId | Role::DefinedId)
     }
 
-    /// Whether the word is an enumerant or a mask that the profile does not have.
+    /// Whether the word is an enumerant, a mask or a part of an import's name that the profile does not have.
     pub fn is_unknown(self) -> bool
         ensures { result ≡ unknown_role self }
     {
@@ -74,22 +76,33 @@ impl Role {
     }
 }
 
-/// The enumerants and masks that take one word.
+/// The enumerants and masks that take one word, with those that the profile has.
 #[derive(Clone, Copy, Debug, PartialEq, Eq)]
 pub enum Enumerant {
+    /// Shader.
     Capability,
+    /// Logical.
     AddressingModel,
+    /// GLSL450.
     MemoryModel,
+    /// GLCompute.
     ExecutionModel,
+    /// The execution mode that literal words follow: LocalSize.
     LiteralMode,
+    /// The execution mode that ids follow: LocalSizeId.
     IdMode,
+    /// Input, Uniform, Workgroup, Private, Function, PushConstant or StorageBuffer.
     StorageClass,
+    /// Any of the bits Inline, DontInline, Pure and Const.
     FunctionControl,
+    /// Any of the bits Unroll and DontUnroll.
     LoopControl,
+    /// Any of the bits Flatten and DontFlatten.
     SelectionControl,
 }
 
-/// An operand of an instruction, which takes some of the words in front.
+/// An operand of an instruction, which takes some of the words in front. Each word is an id or a literal word
+/// of 32 bits, but for strings, which take whole words.
 #[derive(Clone, Copy, Debug, PartialEq, Eq)]
 pub enum Kind {
     /// The id of the result's type.
@@ -100,7 +113,8 @@ pub enum Kind {
     Id,
     /// An id that may be absent.
     OptionalId,
-    /// Any number of ids, up to this one.
+    /// Ids, at most this many. No instruction has more than 65,534 words behind its first, so `u16::MAX` is any
+    /// number.
     Ids(u16),
     /// Any number of pairs of ids.
     IdPairs,
@@ -112,7 +126,7 @@ pub enum Kind {
     Numbers,
     /// No or two literal words.
     Weights,
-    /// Any number of pairs of a literal word and an id, up to this one.
+    /// Pairs of a literal word and an id, at most this many.
     Cases(u16),
     /// A string.
     Text,
@@ -122,10 +136,12 @@ pub enum Kind {
     SetName,
     /// An enumerant or a mask of one word.
     One(Enumerant),
-    /// A mask of memory operands, which may be absent, with the literal word that its bits ask for.
+    /// A mask of memory operands, which may be absent, with the literal word that its bit Aligned asks for.
     MemoryOperands,
-    /// A decoration with its literal word, if it has one.
+    /// A decoration with its literal word, if it has one; any words behind a decoration that the profile does
+    /// not have.
     Decoration,
-    /// The number of an extended instruction, with the ids of its operands.
+    /// The number of an extended instruction, with the ids of its operands; any ids behind a number that the
+    /// profile does not have.
     ExtInst,
 }

@@ -2,8 +2,11 @@
 #![tactic(auto)]
 
 pub mod enumerants;
+pub mod fronts;
 pub mod kind;
 pub mod operands;
 pub mod section;
 pub mod table;
+#[cfg(test)]
+mod tests;
 pub mod text;

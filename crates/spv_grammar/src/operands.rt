@@ -334,13 +334,13 @@ fn push_inner_operands(
 ) -> Result<Option<u16>, NoMemory>
     ensures { IfOk result (Reads (inner_roles opcode words.now) roles.old.items roles.new.items) }
 {
-    let Ok(opcode) = u16::try_from(opcode) else {
+    let Ok(named) = u16::try_from(opcode) else {
         return Ok(Some(rule::UNKNOWN_OPCODE));
     };
-    if opcode == op::SPEC_CONSTANT_OP {
+    if named == op::SPEC_CONSTANT_OP {
         return Ok(Some(rule::UNKNOWN_OPCODE));
     }
-    let Some(row) = row_of(opcode) else {
+    let Some(row) = row_of(named) else {
         return Ok(Some(rule::UNKNOWN_OPCODE));
     };
     if push_operands(alloc, behind_result(row.kinds), words, roles)? {
@@ -389,23 +389,30 @@ fn push_body(
     }
 }
 
-/// The opcode in an instruction's first word.
+/// The opcode in an instruction's first word, its low half (SPIR-V Specification, section 2.3).
 pub fn opcode_of(word: u32) -> u16
     ensures { result ≡ opcode_in word }
 {
     (word & 0xffff) as u16
 }
 
-/// The number of words in an instruction's first word.
+/// The word count in an instruction's first word, its high half: how many words the instruction has, the
+/// first one included (SPIR-V Specification, section 2.3).
 pub fn count_of(word: u32) -> u16
     ensures { result ≡ count_in word }
 {
     (word >> 16) as u16
 }
 
-/// Adds the part that each word of an instruction plays. Answers the rule that the words break, if they
-/// break one: 106 where the profile does not have the opcode, or one that OpSpecConstantOp names, and 107
-/// where the words do not fit the operands.
+/// Adds the part that each word of an instruction plays, one for each of `words`, which are the instruction's
+/// words from the first to the last. Its word count is not looked at.
+///
+/// Answers the rule that the words break, if they break one: 106 where the profile does not have the opcode,
+/// or an OpSpecConstantOp names one that it does not have or OpSpecConstantOp itself; 107 where the words do
+/// not fit the operands, or there is no word. Then what was added to `roles` says nothing, nor
+/// does it where memory is wanting. Strings and
+/// enumerants that the profile does not have break no rule here: their words are added as
+/// `Role::BadOctets` and `Role::UnknownEnumerant`.
 #[tactic(auto, unfolding(crate::specs::Operands::roles_of))]
 pub fn push_roles(
     alloc: Global,

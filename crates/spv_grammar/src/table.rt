@@ -9,7 +9,8 @@ use spv_opcodes::op;
 /// What an opcode's instructions are made of.
 #[derive(Clone, Copy, Debug)]
 pub struct Row {
-    /// The section that they stand in, by the names of `section`.
+    /// The section that they stand in, by the names of `section`. OpVariable and OpUndef have the section of
+    /// those outside functions.
     pub section: u8,
     /// Their operands, in order.
     pub kinds: &'static [Kind],

@@ -57,7 +57,8 @@ fn is_utf8(octets: &[u8]) -> bool
     }
 }
 
-/// Whether octets are a string with its end and its padding.
+/// Whether octets are a string with its end and its padding: UTF-8 up to an octet of zero, and from there on
+/// no other octet.
 pub fn is_text(octets: &[u8]) -> bool
     ensures { result ≡ is_ended_text octets.now }
 {

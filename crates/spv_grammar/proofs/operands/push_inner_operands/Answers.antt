@@ -1,4 +1,4 @@
-use Rattle.std.proofs.Common.{◌≡◌, ◌≤◌, arith, ap}
+use Rattle.std.proofs.Common.{◌≤◌, arith, ap}
 use Rattle.spv_grammar.specs.Operands.{behind}
 use Rattle.spv_grammar.proofs.Rows.{inner_roles-above}
 use Rattle.spv_grammar.proofs.operands.push_inner_operands.Goals as goal
