@@ -1,5 +1,5 @@
 -- The form, from its conditions.
-use Rattle.std.proofs.Common.{◌≡◌, Bool, true, false, ◌&&◌, List, map, refl, ap, ◌∙◌}
+use Rattle.std.proofs.Common.{◌≡◌, Bool, true, false, ◌&&◌, List, map, refl, ◌∙◌}
 use Rattle.std.specs.List.{list_all}
 use Rattle.spv_module.specs.Instruction.{Instruction, opcode}
 use Rattle.spv_module.specs.Layout.{without_lines}

@@ -1,5 +1,5 @@
 -- The opcodes of a module with one function of one block, read one by one.
-use Rattle.std.proofs.Common.{◌≡◌, ℕ, ◌+◌, ◌<◌, Bool, true, false, cond, not, List, [], ◌∷◌, length, drop, map, Option, Some, refl, ap, ◌∙◌}
+use Rattle.std.proofs.Common.{◌≡◌, ℕ, ◌+◌, ◌<◌, Bool, true, false, cond, not, List, ◌∷◌, length, drop, map, Some, ap, ◌∙◌}
 use Rattle.std.specs.List.{slice_get}
 use Rattle.spv_module.specs.Code.{is_line}
 use Rattle.spv_module.specs.Instruction.{Instruction, opcode}

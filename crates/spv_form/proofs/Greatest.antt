@@ -1,6 +1,6 @@
 -- The greatest id of instructions.
-use Rattle.std.proofs.Common.{◌≡◌, ℕ, ◌+◌, ◌<◌, max, Bool, true, false, cond, List, [], ◌∷◌, ◌++◌, length, take, map, Option, Some, refl, sym, ap, ◌∙◌, arith}
-use Rattle.std.specs.List.{filter, flat_map, fold, slice_get, zip}
+use Rattle.std.proofs.Common.{◌≡◌, ℕ, ◌+◌, ◌<◌, max, Bool, true, false, cond, List, [], ◌∷◌, ◌++◌, length, take, map, Some, refl, sym, ap, ◌∙◌, arith}
+use Rattle.std.specs.List.{filter, fold, slice_get, zip}
 use Rattle.std.proofs.lemmas.List.{append-nil}
 use Rattle.std.proofs.lemmas.List.Concat.{flat_map-append}
 use Rattle.spv_grammar.specs.declared.kind.Role.{Role}
@@ -16,8 +16,8 @@ greatest-append : (xs ys : List ℕ) → greatest (xs ++ ys) ≡ max (greatest x
 greatest-append [] ys = grind arith
 greatest-append (x ∷ xs) ys = ap (λ (n : ℕ). max x n) (greatest-append xs ys) ∙ max_three x (greatest xs) (greatest ys)
   where
-  max_three : (x y z : ℕ) → max x (max y z) ≡ max (max x y) z
-  max_three x y z = omega arith
+    max_three : (x y z : ℕ) → max x (max y z) ≡ max (max x y) z
+    max_three x y z = omega arith
 
 -- the words of parts that name an id
 abbrev pub named_words : List (Role × ℕ) → List ℕ

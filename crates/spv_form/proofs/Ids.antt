@@ -1,6 +1,6 @@
 -- Ids in a set, and the ids of an instruction.
-use Rattle.std.proofs.Common.{◌≡◌, ℕ, ◌+◌, ◌<◌, Bool, true, false, cond, ◌&&◌, ◌||◌, ◌==◌, not, List, [], ◌∷◌, ◌++◌, length, take, drop, map, Option, Some, None, refl, sym, ap, subst, ◌∙◌, append_assoc, arith}
-use Rattle.std.specs.List.{cons_option, filter, filter_map, list_all, list_any, slice_get, zip}
+use Rattle.std.proofs.Common.{◌≡◌, ℕ, ◌+◌, ◌<◌, Bool, true, false, cond, ◌&&◌, ◌||◌, ◌==◌, not, List, [], ◌∷◌, ◌++◌, length, take, drop, map, Option, Some, None, refl, sym, ap, subst, ◌∙◌, arith}
+use Rattle.std.specs.List.{cons_option, filter, list_all, list_any, slice_get, zip}
 use Rattle.std.specs.Option.{option_to_list}
 use Rattle.std.specs.Ordering.{nat_cmp}
 use Rattle.std.specs.BTreeSet.{BTreeSet, contains, Updates}
@@ -13,11 +13,11 @@ use Rattle.std.proofs.lemmas.Bool.Decides.{nat_tests}
 use Rattle.spv_grammar.specs.declared.kind.Role.{Role}
 use Rattle.spv_grammar.specs.Roles.{is_defined_id}
 use Rattle.spv_module.specs.Code.{is_line}
-use Rattle.spv_module.specs.Instruction.{Instruction, IsInstruction, parts, roles, word_with}
+use Rattle.spv_module.specs.Instruction.{Instruction, parts, word_with}
 use Rattle.spv_grammar.specs.Operands.{roles_of}
 use Rattle.spv_module.specs.Layout.{without_lines}
-use Rattle.spv_form.specs.SingleBlock.{words_with, is_among, is_new, is_needed, needed_ids, defined_ids, each_behind, defines_anew, names_earlier, is_ordered}
-use Rattle.spv_form.specs.Steps.{HasIds, Defines, DefinesOne, Definitions, AreDefined, is_in_order}
+use Rattle.spv_form.specs.SingleBlock.{is_among, is_new, is_needed, needed_ids, defined_ids, each_behind, defines_anew, names_earlier, is_ordered}
+use Rattle.spv_form.specs.Steps.{HasIds, Defines, DefinesOne, is_in_order}
 use Rattle.spv_form.proofs.Lines.{without_lines-drop, without_lines-take}
 
 -- one id more in a set
@@ -68,9 +68,9 @@ needed-of_parts set ids i rs h e =
 pub defined_ids-push : (before : List Instruction) (i : Instruction) → defined_ids (before ++ i ∷ []) ≡ defined_ids before ++ option_to_list (word_with is_defined_id i)
 defined_ids-push before i = filter_map-append (word_with is_defined_id) before (i ∷ []) ∙ ap (λ (ids : List ℕ). defined_ids before ++ ids) (one_id (word_with is_defined_id i))
   where
-  one_id : (id : Option ℕ) → cons_option id [] ≡ option_to_list id
-  one_id None = refl
-  one_id (Some id) = refl
+    one_id : (id : Option ℕ) → cons_option id [] ≡ option_to_list id
+    one_id None = refl
+    one_id (Some id) = refl
 
 -- what was read of the instructions before the place k: the ids that they define, and that the rules on their order hold of all instructions
 -- where they hold of those from k on

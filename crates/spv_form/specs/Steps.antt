@@ -4,7 +4,6 @@ use Rattle.std.specs.BTreeSet.{BTreeSet, contains}
 use Rattle.std.specs.Option.{option_to_list}
 use Rattle.std.specs.Ordering.{nat_cmp}
 use Rattle.spv_module.specs.Instruction.{Instruction}
-use Rattle.spv_module.specs.Layout.{without_lines}
 use Rattle.spv_form.specs.declared.shape.Part.{Part}
 use Rattle.spv_form.specs.declared.shape.Part.TheVariants.{Before, Head, Block, Tail, Behind, Wrong}
 use Rattle.spv_form.specs.SingleBlock.{has_one_block, is_body, is_block, is_end, is_among, is_new, defined_ids, each_behind, defines_anew, names_earlier}

@@ -12,10 +12,10 @@ use spv_module::{InstList, View};
 fn greatest_among(roles: &[Role], words: &[u32]) -> u32
     ensures { result ≡ fold (λ most part. max most (cond (names_id part.0) part.1 0)) 0 (zip roles.now words.now) }
 {
-    roles
-        .iter()
-        .zip(words)
-        .fold(0, |most, (role, word)| most.max(if role.names_id() { *word } else { 0 }))
+    roles.iter().zip(words).fold(
+        0,
+        |most, (role, word)| most.max(if role.names_id() { *word } else { 0 }),
+    )
 }
 
 /// The greatest id that an instruction names; 0 where it names none.

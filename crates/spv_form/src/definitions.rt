@@ -26,14 +26,20 @@ fn is_needed(role: Role) -> bool
 fn is_ordered(inst: &View) -> bool
     ensures { result ≡ ordered (seen inst.now) }
 {
-    matches!(plain_section(false, inst), section::DECLARATIONS | section::FUNCTIONS)
+    matches!(
+        plain_section(false, inst),
+        section::DECLARATIONS | section::FUNCTIONS
+    )
 }
 
 /// Whether each needed one of the words is an id of the set.
 fn are_among(roles: &[Role], words: &[u32], defined: &BTreeSet<u32>) -> bool
     ensures { result ≡ list_all (λ part. not (needed part.0) || contains nat_cmp defined.now part.1) (zip roles.now words.now) }
 {
-    roles.iter().zip(words).all(|(role, word)| !is_needed(*role) || defined.contains(word))
+    roles
+        .iter()
+        .zip(words)
+        .all(|(role, word)| !is_needed(*role) || defined.contains(word))
 }
 
 /// Whether each id that an instruction names as its result's type or as an operand is one of the set.

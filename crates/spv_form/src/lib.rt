@@ -9,3 +9,6 @@ mod shape;
 
 pub use bound::bound_of;
 pub use form::is_single_block;
+
+#[cfg(test)]
+mod tests;

@@ -29,7 +29,10 @@ pub enum Part {
 fn is_boundary(opcode: u16) -> bool
     ensures { result ≡ boundary opcode }
 {
-    matches!(opcode, op::FUNCTION | op::LABEL | op::RETURN | op::FUNCTION_END)
+    matches!(
+        opcode,
+        op::FUNCTION | op::LABEL | op::RETURN | op::FUNCTION_END
+    )
 }
 
 /// The part behind an opcode.

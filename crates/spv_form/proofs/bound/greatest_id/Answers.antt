@@ -1,7 +1,4 @@
-use Rattle.std.proofs.Common.{ℕ, List, ◌∙◌, ap, sym, cond, max}
-use Rattle.std.specs.List.{fold, zip}
-use Rattle.spv_grammar.specs.declared.kind.Role.{Role}
-use Rattle.spv_grammar.specs.Roles.{names_id}
+use Rattle.std.proofs.Common.{◌∙◌, ap, sym}
 use Rattle.spv_module.specs.Instruction.{parts}
 use Rattle.spv_module.specs.View.{seen}
 use Rattle.spv_form.proofs.Greatest.{greatest-of_parts}

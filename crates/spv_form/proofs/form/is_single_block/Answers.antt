@@ -1,4 +1,4 @@
-use Rattle.std.proofs.Common.{◌≡◌, ◌∙◌, refl, ap, sym, subst, None, Some, true, false}
+use Rattle.std.proofs.Common.{◌∙◌, refl, ap, sym, subst, None, true, false}
 use Rattle.spv_module.specs.Layout.{without_lines}
 use Rattle.spv_form.specs.SingleBlock.{single_block, defined_ids}
 use Rattle.spv_form.specs.Steps.{Definitions, AreDefined}
