@@ -1,27 +1,23 @@
+ghost use Rattle.std.specs.Prelude.{◌≡◌, IfOk};
+ghost use Rattle.either.specs.Either.{is_left};
 ghost use Rattle.opt_outside.specs.Seen.{Rises};
+ghost use Rattle.spirv_opt.specs.Opened.{is_file_name};
 
 use crate::streams::{read_once, write_once};
+use either::{Either, Left, Right};
 use opt_outside::{Failed, Outside};
-use std::io::Input;
+use std::io::{Input, Printer, Write};
 use std::rt::Files;
 use std::{fs, io};
 
 /// The name of standard input and of standard output.
 const STANDARD: &str = "-";
 
-/// What the open input is read from.
-#[derive(Drop)]
-enum Source<F: Drop, S: Drop> {
-    File(F),
-    Standard(S),
-}
+/// What the open input is read from: a file or standard input.
+type Source<R> = Either<<R as Files>::File, <R as Input>::Reader>;
 
-/// What the open output is written to.
-#[derive(Drop)]
-enum Sink<F: Drop> {
-    File(F),
-    Standard,
-}
+/// What the open output is written to: a file or standard output.
+type Sink<'a, R> = Either<<R as Files>::File, Printer<'a, R>>;
 
 /// Files and standard streams. `-` names standard input and standard output, every other name a file.
 ///
@@ -29,19 +25,22 @@ enum Sink<F: Drop> {
 /// cannot be opened, a read or a write that the system refuses, one with nothing open, and a write that
 /// takes nothing of a piece that is not empty.
 #[derive(Drop)]
-pub(crate) struct Host<'a, R: Files + Input + Print, E: Print + Drop> {
+pub(crate) struct Host<'a, R: Files + Input + Print + Drop, E: Print + Drop> {
     rt: &'a R,
     stderr: E,
-    input: Option<Source<R::File, R::Reader>>,
-    output: Option<Sink<R::File>>,
+    input: Option<Source<R>>,
+    output: Option<Sink<'a, R>>,
     read_faults: u64,
     write_faults: u64,
     tell_faults: u64,
 }
 
-impl<'a, R: Files + Input + Print, E: Print + Drop> Host<'a, R, E> {
+impl<'a, R: Files + Input + Print + Drop, E: Print + Drop> Host<'a, R, E> {
     /// Nothing is open, and no fault was counted.
-    pub(crate) fn new(rt: &'a R, stderr: E) -> Host<'a, R, E> {
+    pub(crate) fn new(rt: &'a R, stderr: E) -> Host<'a, R, E>
+        ensures closed { (result.input ≡ None) × (result.output ≡ None) }
+        ensures no_fault { (result.read_faults ≡ 0) × (result.write_faults ≡ 0) × (result.tell_faults ≡ 0) }
+    {
         Host {
             rt,
             stderr,
@@ -54,19 +53,23 @@ impl<'a, R: Files + Input + Print, E: Print + Drop> Host<'a, R, E> {
     }
 
     /// The input of this name.
-    fn source(&self, name: &str) -> io::Result<Source<R::File, R::Reader>> {
+    fn source(&self, name: &str) -> io::Result<Source<R>>
+        ensures { IfOk result (λ source. is_left source ≡ is_file_name name.now) }
+    {
         if name == STANDARD {
-            return Ok(Source::Standard(self.rt.reader()));
+            return Ok(Right(self.rt.reader()));
         }
-        Ok(Source::File(fs::open(self.rt, name)?))
+        Ok(Left(fs::open(self.rt, name)?))
     }
 
     /// The output of this name. A file is emptied, or made where there is none.
-    fn sink(&self, name: &str) -> io::Result<Sink<R::File>> {
+    fn sink(&self, name: &str) -> io::Result<Sink<'a, R>>
+        ensures { IfOk result (λ sink. is_left sink ≡ is_file_name name.now) }
+    {
         if name == STANDARD {
-            return Ok(Sink::Standard);
+            return Ok(Right(io::writer(self.rt)));
         }
-        Ok(Sink::File(fs::create(self.rt, name)?))
+        Ok(Left(fs::create(self.rt, name)?))
     }
 }
 
@@ -78,8 +81,11 @@ fn fault(count: &mut u64) -> Failed
     Failed
 }
 
-impl<'a, R: Files + Input + Print, E: Print + Drop> Outside for Host<'a, R, E> {
-    ghost use Rattle.std.specs.Prelude.{None};
+impl<'a, R: Files + Input + Print + Drop, E: Print + Drop> Outside for Host<'a, R, E> {
+    ghost use Rattle.std.specs.Prelude.{◌≡◌, None, IfOk, OnOk, OnErr, IsSomeAnd, length};
+    ghost use Rattle.either.specs.Either.{either, is_left};
+    ghost use Rattle.opt_outside.specs.Seen.{OpensInput, FailsInput, Reads, FailsRead, OpensOutput, FailsOutput, Writes, FailsWrite};
+    ghost use Rattle.spirv_opt.specs.Opened.{is_file_name, ReadsFrom, WritesTo};
 
     ghost seen = { λ h. record {
       holds = λ _. None;
@@ -93,7 +99,15 @@ impl<'a, R: Files + Input + Print, E: Print + Drop> Outside for Host<'a, R, E> {
       tell_faults = h.tell_faults;
     } };
 
-    fn open_input(&mut self, name: &str) -> Result<(), Failed> {
+    fn open_input(&mut self, name: &str) -> Result<(), Failed>
+        ensures ok { let seen = ⟦<Host<'a, R, E> as Outside>⟧.seen in
+            OnOk result (OpensInput name.now (seen self.old) (seen self.new)) }
+        ensures err { let seen = ⟦<Host<'a, R, E> as Outside>⟧.seen in
+            OnErr result (FailsInput name.now (seen self.old) (seen self.new)) }
+        ensures opened { OnOk result (IsSomeAnd self.new.input
+            (λ source. is_left source ≡ is_file_name name.now)) }
+        ensures kept { OnErr result (self.new.input ≡ self.old.input) }
+    {
         match self.source(name) {
             Ok(source) => {
                 self.input = Some(source);
@@ -103,19 +117,32 @@ impl<'a, R: Files + Input + Print, E: Print + Drop> Outside for Host<'a, R, E> {
         }
     }
 
-    fn read(&mut self, buf: &mut [u8]) -> Result<usize, Failed> {
-        let outcome = match &mut self.input {
-            Some(Source::File(file)) => read_once(file, buf),
-            Some(Source::Standard(reader)) => read_once(reader, buf),
-            None => Err(io::Error::from(io::ErrorKind::NotFound)),
+    fn read(&mut self, buf: &mut [u8]) -> Result<usize, Failed>
+        ensures ok { let seen = ⟦<Host<'a, R, E> as Outside>⟧.seen in
+            IfOk result (λ n. Reads n (length buf.old) buf.new (seen self.old) (seen self.new)) }
+        ensures err { let seen = ⟦<Host<'a, R, E> as Outside>⟧.seen in
+            OnErr result (FailsRead (seen self.old) (seen self.new)) }
+        ensures source { ReadsFrom (either R.File.remaining R.Reader.remaining)
+            self.old.input self.new.input result buf.new }
+    {
+        let Some(source) = &mut self.input else {
+            return Err(fault(&mut self.read_faults));
         };
-        match outcome {
+        match read_once(source, buf) {
             Ok(n) => Ok(n),
             Err(_) => Err(fault(&mut self.read_faults)),
         }
     }
 
-    fn open_output(&mut self, name: &str) -> Result<(), Failed> {
+    fn open_output(&mut self, name: &str) -> Result<(), Failed>
+        ensures ok { let seen = ⟦<Host<'a, R, E> as Outside>⟧.seen in
+            OnOk result (OpensOutput name.now (seen self.old) (seen self.new)) }
+        ensures err { let seen = ⟦<Host<'a, R, E> as Outside>⟧.seen in
+            OnErr result (FailsOutput name.now (seen self.old) (seen self.new)) }
+        ensures opened { OnOk result (IsSomeAnd self.new.output
+            (λ sink. is_left sink ≡ is_file_name name.now)) }
+        ensures kept { OnErr result (self.new.output ≡ self.old.output) }
+    {
         match self.sink(name) {
             Ok(sink) => {
                 self.output = Some(sink);
@@ -125,13 +152,18 @@ impl<'a, R: Files + Input + Print, E: Print + Drop> Outside for Host<'a, R, E> {
         }
     }
 
-    fn write(&mut self, piece: &[u8]) -> Result<usize, Failed> {
-        let outcome = match &mut self.output {
-            Some(Sink::File(file)) => write_once(file, piece),
-            Some(Sink::Standard) => write_once(&mut io::writer(self.rt), piece),
-            None => Err(io::Error::from(io::ErrorKind::NotFound)),
+    fn write(&mut self, piece: &[u8]) -> Result<usize, Failed>
+        ensures ok { let seen = ⟦<Host<'a, R, E> as Outside>⟧.seen in
+            IfOk result (λ n. Writes n piece.now (seen self.old) (seen self.new)) }
+        ensures err { let seen = ⟦<Host<'a, R, E> as Outside>⟧.seen in
+            OnErr result (FailsWrite (seen self.old) (seen self.new)) }
+        ensures sink { WritesTo (either R.File.contents ⟦<Printer<'a, R> as Write>⟧.contents)
+            self.old.output self.new.output result piece.now }
+    {
+        let Some(sink) = &mut self.output else {
+            return Err(fault(&mut self.write_faults));
         };
-        match outcome {
+        match write_once(sink, piece) {
             Ok(n) if n > 0 || piece.is_empty() => Ok(n),
             _ => Err(fault(&mut self.write_faults)),
         }
