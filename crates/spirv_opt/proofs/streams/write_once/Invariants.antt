@@ -1,0 +1,6 @@
+-- A write that was interrupted added nothing.
+use Rattle.std.specs.Io.KnownBytes.{Keeps}
+use Rattle.spirv_opt.proofs.streams.write_once.Given as goal
+
+abbrev pub invariant-tries : goal.invariant-tries
+invariant-tries g l = Keeps (g.W.Write.contents l.initial.writer) (g.W.Write.contents l.writer)
