@@ -1,0 +1,5 @@
+pub mod Readings
+pub mod BitLists
+pub mod Searches
+pub mod FieldLists
+pub mod WordLists

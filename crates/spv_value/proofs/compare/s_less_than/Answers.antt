@@ -1,0 +1,11 @@
+use Rattle.std.proofs.Common.{◌∙◌, ap₂, int_lt}
+use Rattle.std.specs.Int.{from_bool}
+use Rattle.spv_value.proofs.Readings.{reading}
+use Rattle.spv_value.specs.Compare.{s_less_than}
+use Rattle.spv_value.proofs.compare.s_less_than.Goals as goal
+
+pub returns : goal.returns
+unfolding s_less_than
+returns c =
+    c.from.ensures
+    ∙ ap₂ (λ x y. from_bool (int_lt x y)) (reading c.args.a _ c.ranges.a.fits c.cast_signed.ensures) (reading c.args.b _ c.ranges.b.fits c.cast_signed-2.ensures)
