@@ -32,34 +32,66 @@ has_volatile (mask ∷ rest) = mask % 2 == 1
 
 abbrev pub load_access : (r count : ℕ) → Pointer → (memory : List ℕ) → Access
 load_access r count p memory = record {
-  action = Loads; opcode = op.LOAD; place = p.place; count = count; operands = []; scopes = []; semantics = [];
-  memory = memory; volatile = p.volatile || has_volatile memory; id = r;
+  action = Loads;
+  opcode = op.LOAD;
+  place = p.place;
+  count = count;
+  operands = [];
+  scopes = [];
+  semantics = [];
+  memory = memory;
+  volatile = p.volatile || has_volatile memory;
+  id = r;
 }
 
 abbrev pub store_access : Pointer → (words memory : List ℕ) → Access
 store_access p words memory = record {
-  action = Stores; opcode = op.STORE; place = p.place; count = length words; operands = words; scopes = []; semantics = [];
-  memory = memory; volatile = p.volatile || has_volatile memory; id = 0;
+  action = Stores;
+  opcode = op.STORE;
+  place = p.place;
+  count = length words;
+  operands = words;
+  scopes = [];
+  semantics = [];
+  memory = memory;
+  volatile = p.volatile || has_volatile memory;
+  id = 0;
 }
 
 abbrev pub atomic_access : (opcode r : ℕ) → Pointer → (values : List ℕ) → (scopes semantics : List (List ℕ)) → Access
 atomic_access opcode r p values scopes semantics = record {
-  action = Atomics; opcode = opcode; place = p.place; count = cells p.target; operands = values; scopes = scopes; semantics = semantics;
-  memory = []; volatile = p.volatile; id = r;
+  action = Atomics;
+  opcode = opcode;
+  place = p.place;
+  count = cells p.target;
+  operands = values;
+  scopes = scopes;
+  semantics = semantics;
+  memory = [];
+  volatile = p.volatile;
+  id = r;
 }
 
 -- a fence or a barrier
 abbrev pub order_access : Action → (opcode : ℕ) → (scopes semantics : List (List ℕ)) → Access
 order_access action opcode scopes semantics = record {
-  action = action; opcode = opcode; place = None; count = 0; operands = []; scopes = scopes; semantics = semantics;
-  memory = []; volatile = false; id = 0;
+  action = action;
+  opcode = opcode;
+  place = None;
+  count = 0;
+  operands = [];
+  scopes = scopes;
+  semantics = semantics;
+  memory = [];
+  volatile = false;
+  id = 0;
 }
 
 abbrev pub loads : Setting → Data → DataType → (r : ℕ) → (memory : List ℕ) → Pointer → Outcome
 loads c d t r memory p =
     cond (is_shared p.class)
-        (Wants (load_access r (cells t) p memory) (λ answer. bind r (Words (fitted (booleans t) answer)) d))
-        (Does (bind r (Words (read_held c d (cells t) p.place)) d))
+    (Wants (load_access r (cells t) p memory) (λ answer. bind r (Words (fitted (booleans t) answer)) d))
+    (Does (bind r (Words (read_held c d (cells t) p.place)) d))
 
 abbrev pub stores : Data → (memory words : List ℕ) → Pointer → Outcome
 stores d memory words p = cond (is_shared p.class) (Wants (store_access p words memory) (λ answer. d)) (Does (write_held d p.place words))

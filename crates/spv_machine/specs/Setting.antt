@@ -35,8 +35,8 @@ abbrev pub size_by_ids : List Statement → Table → (function : ℕ) → Optio
 size_by_ids [] table function = None
 size_by_ids (says.LocalSizeId of ids ∷ rest) table function =
     cond (of == function)
-        (Some (record { x = slice_index (words_at table (slice_index ids 0)) 0; y = slice_index (words_at table (slice_index ids 1)) 0; z = slice_index (words_at table (slice_index ids 2)) 0 }))
-        (size_by_ids rest table function)
+    (Some (record { x = slice_index (words_at table (slice_index ids 0)) 0; y = slice_index (words_at table (slice_index ids 1)) 0; z = slice_index (words_at table (slice_index ids 2)) 0 }))
+    (size_by_ids rest table function)
 size_by_ids (s ∷ rest) table function = size_by_ids rest table function
 
 abbrev pub size_by_literals : List Statement → (function : ℕ) → Option Triple

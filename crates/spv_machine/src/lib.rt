@@ -1,7 +1,22 @@
 //! The machine of SPIR-V compute shaders: what a module does under a dispatch.
+//!
+//! The definitions are in `specs/`; each function here has laws or facts over them as its contract, and does nothing
+//! when it is called.
 #![tactic(auto)]
 
 ghost use Rattle.spv_machine.specs.Laws.{SchedulesLaw, SilenceLaw, StripLaw};
+
+/// The law over schedules, of this machine: where each invocation of one module keeps the accesses of another, up to a
+/// one-to-one renaming of Workgroup variables and but for plain loads, and their workgroups have one size, then, if every
+/// schedule of the other returns, so does every schedule of the one, and both can leave the same buffers.
+pub fn schedules_law()
+    ensures { SchedulesLaw }
+{}
+
+/// A module without some of the instructions that say nothing, which are debug instructions and line marks, means the same.
+pub fn silence_law()
+    ensures { SilenceLaw }
+{}
 
 /// A module without its debug instructions means the same.
 pub fn strip_law()
