@@ -1,13 +1,13 @@
 -- Accesses that are alike up to the names of Workgroup variables do alike to memories that are.
-use Rattle.std.proofs.Common.{◌≡◌, ℕ, Bool, true, false, not, cond, ◌&&◌, ◌==◌, List, [], ◌∷◌, map, Option, Some, None, refl, sym, ap, ◌∙◌, subst, arith, nat_eq}
+use Rattle.std.proofs.Common.{◌≡◌, ℕ, Bool, true, false, cond, ◌&&◌, ◌==◌, List, [], ◌∷◌, map, Option, Some, None, refl, sym, ap, ◌∙◌, subst, nat_eq}
 use Rattle.std.proofs.lemmas.Bool.{eqb-true, eqb-false, eq-eqb, ne_eqb}
 use Rattle.std.specs.Prelude.{slice_index, length}
 use Rattle.std.specs.Map.{lookup}
 use Rattle.spv_opcodes.specs.declared.op.TheConstants as op
 use Rattle.spv_machine.specs.Places.{Triple, same_triple, Memory, Buffer, Uniform, Push, Workgroup, Input, Private, Local, Place, is_within}
 use Rattle.spv_machine.specs.Access.{Action, Loads, Stores, Atomics, Fences, Barriers, Access, IsPlainLoad}
-use Rattle.spv_machine.specs.Dispatch.{Bound, words_bound}
-use Rattle.spv_machine.specs.Effects.{Shared, Cell, cell_word, with_bound_word, shared_word, with_word, words_there, with_words, shared_size, reached, atomic_rules, after_atomic, after_at, after, read_at, answer_by, answer, is_barrier_action, is_barrier}
+use Rattle.spv_machine.specs.Dispatch.{words_bound}
+use Rattle.spv_machine.specs.Effects.{Shared, cell_word, with_bound_word, shared_word, with_word, words_there, with_words, shared_size, reached, atomic_rules, after_atomic, after_at, after, read_at, answer_by, answer, is_barrier_action, is_barrier}
 use Rattle.spv_machine.specs.Alike.{Renaming, IsOneToOne, SameMemory, SameObject, SamePlace, SameAccess, NearMemory}
 
 some_is : {X : Type 0} (x y : X) → Some x ≡ Some y → x ≡ y

@@ -1,12 +1,9 @@
 -- The law over schedules at the machine.
-use Rattle.std.proofs.Common.{◌≡◌, ℕ, ◌*◌, ◌/◌, ◌<◌, Bool, true, false, List, Option, Some, None, refl, sym, ap, ◌∙◌, subst}
+use Rattle.std.proofs.Common.{◌≡◌, ℕ, ◌*◌, ◌/◌, Bool, true, List, refl, sym, ap, ◌∙◌}
 use Rattle.std.specs.Prelude.{◌↔◌}
 use Rattle.std.specs.Option.{unwrap_or}
-use Rattle.interleaving.specs.Machine as machine
 use Rattle.interleaving.specs.Laws.{Suits, TwoPrograms, ScheduleLaw}
 use Rattle.interleaving.specs.Laws as general
-use Rattle.interleaving.specs.Keeps as alone
-use Rattle.interleaving.specs.Trace as traces
 use Rattle.interleaving.proofs.Laws as proved
 use Rattle.spv_module.specs.Code.{Code}
 use Rattle.spv_machine.specs.Access.{Access, IsPlainLoad}
@@ -14,10 +11,10 @@ use Rattle.spv_machine.specs.Dispatch.{Bound, Dispatch, Specialisation, speciali
 use Rattle.spv_machine.specs.Setting.{setting, no_triple, invocations, group_number}
 use Rattle.spv_machine.specs.Effects.{Shared, effects}
 use Rattle.spv_machine.specs.State.{State}
-use Rattle.spv_machine.specs.Steps.{look, first_state, program}
+use Rattle.spv_machine.specs.Steps.{program}
 use Rattle.spv_machine.specs.Alike.{Renaming, IsOneToOne, SameAccess, NearMemory}
 use Rattle.spv_machine.specs.Machine.{setting_of, workgroup_size, Trace, Ends, Finals, invocation_count}
-use Rattle.spv_machine.specs.Laws.{Keeps, SameFinals, SchedulesLaw}
+use Rattle.spv_machine.specs.Laws.{Keeps, SchedulesLaw}
 use Rattle.spv_machine.proofs.Renaming.{after_near, answer_near, barrier_near, load_changes_nothing, load_is_no_barrier}
 
 count_is : (m m2 : Code) (d : Dispatch) (s : Specialisation) → workgroup_size m2 d ≡ workgroup_size m (specialised d s) → invocations (setting_of m2 d) ≡ invocations (setting_of m (specialised d s))

@@ -1,5 +1,5 @@
 -- Modules that say the same mean the same, and instructions that say nothing may go.
-use Rattle.std.proofs.Common.{◌≡◌, ℕ, Bool, true, false, not, cond, ◌||◌, List, [], ◌∷◌, map, refl, sym, ap, ◌∙◌, subst}
+use Rattle.std.proofs.Common.{◌≡◌, ℕ, Bool, true, false, not, cond, ◌||◌, List, [], ◌∷◌, refl, sym, ap, ◌∙◌, subst}
 use Rattle.std.specs.Prelude.{◌↔◌, filter}
 use Rattle.interleaving.specs.Machine as machine
 use Rattle.interleaving.specs.Trace as alone
@@ -11,7 +11,7 @@ use Rattle.spv_machine.specs.Setting.{setting, size_in, FitsStatements, invocati
 use Rattle.spv_machine.specs.Effects.{Shared, effects}
 use Rattle.spv_machine.specs.Steps.{look, first_state, program}
 use Rattle.spv_machine.specs.Machine.{statements, Fits, workgroup_size, Trace, Ends, Finals, invocation_count}
-use Rattle.spv_machine.specs.Laws.{MeansSame, KeepsWords, StripLaw, SilenceLaw}
+use Rattle.spv_machine.specs.Laws.{MeansSame, StripLaw, SilenceLaw}
 
 both_ways : {X : Type 0} (P : X → Type 0) (x y : X) → y ≡ x → P x ↔ P y
 both_ways P x y e = (subst P (sym e), subst P e)

@@ -1,6 +1,6 @@
 -- Accesses and shared memories that are alike up to the names of Workgroup variables.
-use Rattle.std.specs.Prelude.{◌≡◌, ℕ, List, Option, Some, None}
-use Rattle.spv_machine.specs.Places.{Triple, Memory, Buffer, Uniform, Push, Workgroup, Input, Private, Local, Place}
+use Rattle.std.specs.Prelude.{◌≡◌, ℕ, Option, Some, None}
+use Rattle.spv_machine.specs.Places.{Triple, Memory, Workgroup, Place}
 use Rattle.spv_machine.specs.Access.{Access}
 use Rattle.spv_machine.specs.Effects.{Shared, cell_word}
 

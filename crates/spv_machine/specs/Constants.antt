@@ -1,5 +1,5 @@
 -- What ids outside functions stand for, under a specialisation: types, constants and variables.
-use Rattle.std.specs.Prelude.{◌≡◌, ℕ, zero, suc, ◌/◌, Bool, true, false, cond, ◌==◌, ◌&&◌, nat_eq, List, [], ◌∷◌, ◌++◌, replicate, slice_index, Option, Some, None, is_some}
+use Rattle.std.specs.Prelude.{ℕ, suc, ◌/◌, true, cond, ◌==◌, ◌&&◌, nat_eq, List, [], ◌∷◌, ◌++◌, replicate, slice_index, Option, Some, None, is_some}
 use Rattle.std.specs.Map.{lookup}
 use Rattle.std.specs.Option.{unwrap_or, option_map}
 use Rattle.spv_opcodes.specs.declared.decoration.TheConstants as decoration

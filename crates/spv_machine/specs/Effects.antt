@@ -1,13 +1,12 @@
 -- The shared memory, and what an access does to it and answers: one whole access at a time.
-use Rattle.std.specs.Prelude.{◌≡◌, ℕ, ◌+◌, Bool, true, false, cond, not, ◌==◌, ◌&&◌, nat_eq, nat_lt, List, [], ◌∷◌, map, replicate, length, slice_index, slice_set, Option, Some, None}
-use Rattle.std.specs.List.{list_all}
+use Rattle.std.specs.Prelude.{ℕ, Bool, true, false, cond, ◌==◌, ◌&&◌, nat_eq, List, [], ◌∷◌, map, replicate, length, slice_index, slice_set, Option, Some, None}
 use Rattle.std.specs.Map.{lookup}
 use Rattle.spv_opcodes.specs.declared.op.TheConstants as op
 use Rattle.spv_value.specs.Arith.{i_add, i_sub}
 use Rattle.spv_value.specs.Bits.{bitwise_and, bitwise_or, bitwise_xor}
 use Rattle.spv_value.specs.Ext.{u_min, u_max, s_min, s_max}
 use Rattle.interleaving.specs.Machine.{Answer, Effects}
-use Rattle.spv_machine.specs.Places.{Triple, same_triple, Memory, Buffer, Uniform, Push, Workgroup, Input, Private, Local, Place, is_within}
+use Rattle.spv_machine.specs.Places.{Triple, same_triple, Memory, Buffer, Workgroup, Place, is_within}
 use Rattle.spv_machine.specs.Access.{Action, Loads, Stores, Atomics, Fences, Barriers, Access}
 use Rattle.spv_machine.specs.Dispatch.{Bound, words_bound}
 use Rattle.spv_machine.specs.Setting.{Setting, group_number, invocations}

@@ -1,5 +1,5 @@
 -- The laws of the machine, as statements.
-use Rattle.std.specs.Prelude.{◌≡◌, ◌↔◌, ℕ, ◌<◌, Bool, true, false, not, List, map, filter, Option}
+use Rattle.std.specs.Prelude.{◌≡◌, ◌↔◌, ℕ, ◌<◌, Bool, true, false, not, List, filter}
 use Rattle.interleaving.specs.Machine.{Answer}
 use Rattle.interleaving.specs.Keeps as alone
 use Rattle.spv_module.specs.Code.{Code}

@@ -12,3 +12,5 @@ pub mod Steps
 pub mod Machine
 pub mod Alike
 pub mod Laws
+pub mod Doubling
+pub mod Facts

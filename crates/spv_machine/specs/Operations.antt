@@ -1,18 +1,17 @@
 -- What an instruction does that leads to the one behind it.
-use Rattle.std.specs.Prelude.{◌≡◌, ℕ, ◌+◌, ◌%◌, Bool, true, false, cond, ◌==◌, ◌||◌, List, [], ◌∷◌, ◌++◌, length, replicate, slice_index, Option, Some, None}
+use Rattle.std.specs.Prelude.{ℕ, ◌%◌, Bool, false, cond, ◌==◌, ◌||◌, List, [], ◌∷◌, ◌++◌, length, slice_index, Option, Some, None}
 use Rattle.spv_opcodes.specs.declared.op.TheConstants as op
-use Rattle.spv_opcodes.specs.declared.storage_class.TheConstants as storage_class
 use Rattle.spv_value.specs.Eval.{Eval}
 use Rattle.interleaving.specs.Machine.{Answer}
 use Rattle.spv_machine.specs.Statements as says
 use Rattle.spv_machine.specs.Statements.{Statement}
 use Rattle.spv_machine.specs.Types.{DataType, cells, booleans, fitted}
-use Rattle.spv_machine.specs.Places.{Place, Local, object_at, is_shared, locate, passes_volatile}
+use Rattle.spv_machine.specs.Places.{Place, Local, is_shared, locate, passes_volatile}
 use Rattle.spv_machine.specs.Access.{Action, Loads, Stores, Atomics, Fences, Barriers, Access}
 use Rattle.spv_machine.specs.Dispatch.{size_of}
 use Rattle.spv_machine.specs.Constants.{type_at, pointer_at, initial}
 use Rattle.spv_machine.specs.Setting.{Setting}
-use Rattle.spv_machine.specs.State.{Pointer, Value, Words, Points, Frame, Data, on_top, bind, depth_of, with_variable, whole, value, word_lists, words_of_value, pointer_of_value, read_held, write_held}
+use Rattle.spv_machine.specs.State.{Pointer, Value, Words, Points, Data, on_top, bind, depth_of, with_variable, whole, value, word_lists, words_of_value, pointer_of_value, read_held, write_held}
 
 -- the data behind it; an access, and the data by its answer; or nothing
 pub data Outcome : Type 0 where

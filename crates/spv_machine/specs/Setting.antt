@@ -1,14 +1,14 @@
 -- A module under a dispatch: what each of its invocations finds.
-use Rattle.std.specs.Prelude.{◌≡◌, ℕ, ◌+◌, ◌*◌, ◌/◌, ◌%◌, ◌^◌, ◌≤◌, Bool, true, false, cond, ◌==◌, ◌&&◌, nat_eq, List, [], ◌∷◌, slice_index, Option, Some, None, IfSome, IsSome}
+use Rattle.std.specs.Prelude.{ℕ, ◌+◌, ◌*◌, ◌/◌, ◌%◌, ◌^◌, ◌≤◌, cond, ◌==◌, ◌&&◌, nat_eq, List, [], ◌∷◌, slice_index, Option, Some, None, IfSome, IsSome}
 use Rattle.std.specs.List.{AllByRecursion}
-use Rattle.std.specs.Option.{unwrap_or, option_map}
+use Rattle.std.specs.Option.{unwrap_or}
 use Rattle.std.specs.Cmp.Lexicographic.{pointwise}
 use Rattle.spv_opcodes.specs.declared.decoration.TheConstants as decoration
 use Rattle.spv_opcodes.specs.declared.builtin.TheConstants as builtin
 use Rattle.spv_machine.specs.Statements as says
 use Rattle.spv_machine.specs.Statements.{Statement}
 use Rattle.spv_machine.specs.Places.{Triple}
-use Rattle.spv_machine.specs.Dispatch.{Dispatch, Specialisation, volume, triple_at, words_of_triple}
+use Rattle.spv_machine.specs.Dispatch.{Dispatch, volume, triple_at, words_of_triple}
 use Rattle.spv_machine.specs.Constants.{Table, table_of, words_at, length_at}
 
 -- the function of the entry point with a name; of two of one name the first counts

@@ -1,15 +1,14 @@
 -- The state of an invocation: where it stands, apart from its data.
-use Rattle.std.specs.Prelude.{◌≡◌, ℕ, ◌+◌, Bool, true, false, cond, ◌==◌, nat_eq, List, [], ◌∷◌, ◌++◌, map, length, replicate, slice_index, slice_set, Option, Some, None, is_some}
+use Rattle.std.specs.Prelude.{ℕ, Bool, cond, ◌==◌, nat_eq, List, [], ◌∷◌, ◌++◌, map, length, replicate, slice_index, slice_set, Option, Some, None, is_some}
 use Rattle.std.specs.Map.{lookup}
 use Rattle.std.specs.Option.{unwrap_or}
 use Rattle.spv_opcodes.specs.declared.decoration.TheConstants as decoration
 use Rattle.spv_opcodes.specs.declared.storage_class.TheConstants as storage_class
-use Rattle.spv_machine.specs.Statements as says
 use Rattle.spv_machine.specs.Statements.{Statement}
 use Rattle.spv_machine.specs.Types.{DataType}
 use Rattle.spv_machine.specs.Places.{Triple, Memory, Buffer, Uniform, Push, Workgroup, Input, Private, Local, Place, object_at, is_within}
-use Rattle.spv_machine.specs.Constants.{Table, Meaning, IsType, IsPointer, IsConstant, IsVariable, meaning, decorated, literal}
-use Rattle.spv_machine.specs.Dispatch.{Dispatch, size_of, words_bound}
+use Rattle.spv_machine.specs.Constants.{Meaning, IsConstant, IsVariable, meaning, decorated, literal}
+use Rattle.spv_machine.specs.Dispatch.{size_of, words_bound}
 use Rattle.spv_machine.specs.Setting.{Setting, builtin_words}
 
 -- the storage class and the type that a pointer's type names, the place, which may be Nowhere, and whether what its chain passes is volatile

@@ -1,5 +1,5 @@
 -- What an instruction says to the machine.
-use Rattle.std.specs.Prelude.{◌≡◌, ℕ, ◌==◌, ◌||◌, Bool, true, false, cond, nat_eq, List, [], ◌∷◌, map, take, drop, slice_index, Option, Some, None}
+use Rattle.std.specs.Prelude.{ℕ, ◌==◌, ◌||◌, Bool, cond, nat_eq, List, [], ◌∷◌, map, take, drop, slice_index, Option, Some, None}
 use Rattle.std.specs.Map.{lookup}
 use Rattle.spv_opcodes.specs.declared.op.TheConstants as op
 use Rattle.spv_opcodes.specs.declared.execution_mode.TheConstants as execution_mode
@@ -7,7 +7,6 @@ use Rattle.spv_words.specs.Words.{bytes_of_words}
 use Rattle.spv_grammar.specs.Operands.{opcode_of}
 use Rattle.spv_grammar.specs.Text.{text_words, text_in}
 use Rattle.spv_module.specs.Instruction.{Instruction, opcode}
-use Rattle.spv_module.specs.Code.{is_line}
 
 -- The parts of an instruction by name. Types, results and operands are ids; t is the result's type and r the result.
 pub data Statement : Type 0 where

@@ -1,6 +1,5 @@
 -- What an invocation does next.
-use Rattle.std.specs.Prelude.{◌≡◌, ℕ, Bool, true, false, cond, ◌==◌, List, [], ◌∷◌, ◌++◌, map, Option, Some, None}
-use Rattle.std.specs.Option.{unwrap_or}
+use Rattle.std.specs.Prelude.{ℕ, cond, ◌==◌, List, [], ◌∷◌, ◌++◌, Option, Some, None}
 use Rattle.spv_opcodes.specs.declared.storage_class.TheConstants as storage_class
 use Rattle.interleaving.specs.Machine.{Move, HasReturned, IsStuck, Goes, Stands, Program}
 use Rattle.spv_machine.specs.Statements as says
@@ -9,7 +8,7 @@ use Rattle.spv_machine.specs.Types.{number_in}
 use Rattle.spv_machine.specs.Access.{Access}
 use Rattle.spv_machine.specs.Constants.{Table, Meaning, IsVariable}
 use Rattle.spv_machine.specs.Setting.{Setting, workgroup_id, local_id}
-use Rattle.spv_machine.specs.State.{Pointer, Value, Words, Points, Frame, Data, Caller, State, At, Over, no_frame, below, bind, bind_all, is_volatile_id, value, values, words_of_value}
+use Rattle.spv_machine.specs.State.{Value, Words, Points, Data, Caller, State, At, Over, below, bind, bind_all, is_volatile_id, value, values, words_of_value}
 use Rattle.spv_machine.specs.Operations.{Outcome, Does, Wants, Fails, outcome}
 
 abbrev pub Next : Type 0

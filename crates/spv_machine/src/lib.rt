@@ -4,21 +4,11 @@
 //! when it is called.
 #![tactic(auto)]
 
-ghost use Rattle.spv_machine.specs.Laws.{SchedulesLaw, SilenceLaw, StripLaw};
+mod facts;
+mod laws;
 
-/// The law over schedules, of this machine: where each invocation of one module keeps the accesses of another, up to a
-/// one-to-one renaming of Workgroup variables and but for plain loads, and their workgroups have one size, then, if every
-/// schedule of the other returns, so does every schedule of the one, and both can leave the same buffers.
-pub fn schedules_law()
-    ensures { SchedulesLaw }
-{}
-
-/// A module without some of the instructions that say nothing, which are debug instructions and line marks, means the same.
-pub fn silence_law()
-    ensures { SilenceLaw }
-{}
-
-/// A module without its debug instructions means the same.
-pub fn strip_law()
-    ensures { StripLaw }
-{}
+pub use facts::{
+    facts_of_constants, facts_of_control, facts_of_dispatches, facts_of_doubling, facts_of_effects,
+    facts_of_places, facts_of_two_invocations, facts_of_volatility,
+};
+pub use laws::{schedules_law, silence_law, strip_law};

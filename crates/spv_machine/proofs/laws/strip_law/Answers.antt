@@ -1,5 +1,5 @@
 use Rattle.spv_machine.proofs.Silence as laws
-use Rattle.spv_machine.proofs.strip_law.Goals as goal
+use Rattle.spv_machine.proofs.laws.strip_law.Goals as goal
 
 pub returns : goal.returns
 returns c = laws.strip_law
