@@ -54,7 +54,7 @@ id_above_zero words roles p whole here names =
     let none = no_bad_parts (2 ^ 32) words roles whole.parted whole.unbroken in
     let pair = get_or-zip roles words p (Opcode, 0) here fits in
     let not_zero : get_or words p 0 ≡ 0 → ⊥ = λ zero_word.
-      false≢true (sym none ∙ list_any_at (is_bad_part (2 ^ 32)) (zip roles words) p (Opcode, 0) (omega (arith, length-zip roles words)) (rw (pair, names, zero_word) refl)) in
+    false≢true (sym none ∙ list_any_at (is_bad_part (2 ^ 32)) (zip roles words) p (Opcode, 0) (omega (arith, length-zip roles words)) (rw (pair, names, zero_word) refl)) in
     omega (arith, not_zero)
 
 defined_names_id : (role : Role) → is_defined_id role ≡ true → names_id role ≡ true

@@ -2,3 +2,10 @@ pub mod Ids
 pub mod Whole
 pub mod Spans
 pub mod Unbroken
+pub mod FirstLemmas
+pub mod Cutting
+pub mod ReadingSteps
+pub mod Summary
+pub mod LayoutScan
+pub mod Sections
+pub mod Decoding

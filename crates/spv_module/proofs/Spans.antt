@@ -25,7 +25,7 @@ span_stays words ws roles rs span same s = record {
   ordered = s.ordered;
   within = omega (arith, s.within, length-append words ws);
   whole =
-    rw (slice_range-append words ws span.start span.end s.ordered s.within, slice_range-append roles rs span.start span.end s.ordered (omega (arith, s.within, same)))
+      rw (slice_range-append words ws span.start span.end s.ordered s.within, slice_range-append roles rs span.start span.end s.ordered (omega (arith, s.within, same)))
       s.whole;
 }
 
@@ -60,8 +60,8 @@ pub record Adds (words words2 ws : List ℕ) (roles roles2 rs : List Role) (span
 pub spans-added : (words words2 ws : List ℕ) (roles roles2 rs : List Role) (spans spans2 : List Span) (span : Span) → Adds words words2 ws roles roles2 rs spans spans2 span → All (IsSpan words2 roles2) spans2
 spans-added words words2 ws roles roles2 rs spans spans2 span a =
     rw (a.words_are, a.roles_are, a.spans_are)
-      (All-push (IsSpan (words ++ ws) (roles ++ rs)) spans span (λ k d here. span_stays words ws roles rs (get_or spans k d) a.same (a.before k d here))
-        (added_span words ws roles rs span a.same a.starts (a.ends ∙ ap length a.words_are) a.whole))
+    (All-push (IsSpan (words ++ ws) (roles ++ rs)) spans span (λ k d here. span_stays words ws roles rs (get_or spans k d) a.same (a.before k d here))
+    (added_span words ws roles rs span a.same a.starts (a.ends ∙ ap length a.words_are) a.whole))
 
 instructions_stay : (words ws : List ℕ) (roles : List Role) (spans : List Span) → ByRecursion (IsSpan words roles) spans → map (instruction_at (words ++ ws)) spans ≡ map (instruction_at words) spans
 instructions_stay words ws roles [] all = refl

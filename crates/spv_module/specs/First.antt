@@ -1,5 +1,5 @@
 -- Broken rules as a list of pairs of a rule and a place, and the first of them: the least place, and there the least rule.
-use Rattle.std.specs.Option.{option_map, unwrap_or}
+use Rattle.std.specs.Option.{option_map, option_or, unwrap_or}
 use Rattle.std.specs.Prelude.{ℕ, min, Bool, true, false, cond, ◌==◌, ◌&&◌, ◌||◌, nat_lt, List, [], ◌∷◌, map, Option, Some, None}
 use Rattle.spv_base.specs.declared.fault.Refusal.{Refusal}
 
@@ -24,10 +24,14 @@ first (b ∷ bs) = Some (earlier b (first bs))
 
 -- the first of a lower group comes before all of a higher group
 abbrev pub first_group : Option Refusal → Option Refusal → Option Refusal
-first_group None higher = higher
-first_group (Some b) higher = Some b
+first_group lower higher = option_or lower higher
 
 -- the least of some rules
 abbrev pub least : List ℕ → Option ℕ
 least [] = None
 least (rule ∷ rules) = Some (unwrap_or (option_map (λ other. min rule other) (least rules)) rule)
+
+-- the least of some rules at a place, else what comes later
+abbrev pub at_place : ℕ → Option ℕ → Option Refusal → Option Refusal
+at_place at None later = later
+at_place at (Some rule) later = Some (record { rule = rule; at = at })

@@ -1,5 +1,5 @@
 -- The broken rules of the second group: the order of sections and the shape of functions. They look past line marks.
-use Rattle.std.specs.Prelude.{◌≡◌, ℕ, zero, suc, ◌+◌, Bool, true, false, cond, ◌==◌, ◌&&◌, ◌||◌, not, nat_lt, nat_le, List, [], ◌∷◌, ◌++◌, length, filter, Option, Some, None}
+use Rattle.std.specs.Prelude.{◌≡◌, ℕ, zero, suc, ◌+◌, ◌≤◌, Bool, true, false, cond, ◌==◌, ◌&&◌, ◌||◌, not, nat_lt, nat_le, List, [], ◌∷◌, ◌++◌, length, filter, Option, Some, None}
 use Rattle.std.specs.List.{list_any, fold}
 use Rattle.spv_base.specs.declared.fault.Refusal.{Refusal}
 use Rattle.spv_opcodes.specs.declared.op.TheConstants as op
@@ -98,3 +98,8 @@ without_lines insts = filter (λ i. not (is_line i)) insts
 
 abbrev pub group_2 : (end : ℕ) → List Instruction → List Refusal
 group_2 end insts = here 5 (missing_rules (without_lines insts)) ++ (layout_from [] (without_lines insts) ++ here end (end_rule (without_lines insts)))
+
+-- places rise from n on, and all are below the end
+abbrev pub RisesTo : (end n : ℕ) → List Instruction → Type 0
+RisesTo end n [] = n ≤ end
+RisesTo end n (i ∷ is) = (n ≤ i.offset) × RisesTo end (suc i.offset) is

@@ -8,3 +8,4 @@ pub mod Layout
 pub mod List
 pub mod View
 pub mod Reading
+pub mod LayoutSteps

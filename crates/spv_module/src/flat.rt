@@ -1,7 +1,13 @@
-ghost use Rattle.std.specs.Prelude.{◌≡◌};
+ghost use Rattle.std.specs.Prelude.{◌≡◌, ◌<◌, ◌≤◌, ◌^◌, ◌||◌, length, Some, slice_get, slice_index, count_by, IfOk};
+ghost use Rattle.spv_module.specs.Code.{section_in, sections_of, is_function};
+ghost use Rattle.spv_module.specs.View.{seen};
 
+use crate::layout::{is_line, plain_section};
 use crate::list::InstList;
-use spv_base::Header;
+use crate::view::View;
+use spv_base::{Header, NoMemory};
+use spv_opcodes::op;
+use std::alloc::Global;
 use std::marker::Model;
 
 /// A module: its header and its instructions, each with its section. It has fewer than 2^32 instructions.
@@ -15,9 +21,117 @@ pub struct Flat {
 impl Model for Flat {
     ghost use Rattle.std.specs.Prelude.{◌≡◌, ◌<◌, ◌^◌, length};
     ghost use Rattle.spv_module.specs.Code.{Code, sections_of};
-    ghost use Rattle.spv_module.specs.Decode.{first_in_decode};
 
     ghost Value = { Code };
+
     ghost view = { λ flat. record { header = flat.header; insts = flat.insts } };
+
     ghost invariant = { λ flat. (flat.sections.items ≡ sections_of flat.insts) × (length flat.insts < 2 ^ 32) };
+}
+
+/// The section of an instruction behind one of the section `before`.
+fn section_of(begun: bool, before: u8, inst: &View) -> u8
+    ensures { result ≡ section_in begun before (seen inst.now) }
+{
+    if is_line(inst) {
+        before
+    } else {
+        plain_section(begun, inst)
+    }
+}
+
+/// Whether a function has begun behind an instruction.
+fn has_begun(begun: bool, inst: &View) -> bool
+    ensures { result ≡ (begun || is_function (seen inst.now)) }
+{
+    begun || inst.opcode() == op::FUNCTION
+}
+
+/// The number of OpFunction among instructions.
+fn count_functions(insts: &InstList) -> usize
+    ensures count { result ≡ count_by is_function insts.now }
+    ensures within { result ≤ length insts.now }
+{
+    let mut functions = 0;
+    'instructions: for k in 0..insts.count() {
+        if has_begun(false, &insts.at(k)) {
+            functions += 1;
+        }
+    }
+    functions
+}
+
+/// The section of each instruction.
+fn sections(alloc: Global, insts: &InstList) -> Result<Vec<u8>, NoMemory>
+    ensures { IfOk result (λ sections. sections.items ≡ sections_of insts.now) }
+{
+    let mut sections = Vec::new(alloc);
+    let mut begun = false;
+    let mut before = 1;
+    'instructions: for k in 0..insts.count() {
+        let inst = insts.at(k);
+        before = section_of(begun, before, &inst);
+        sections.push(before)?;
+        begun = has_begun(begun, &inst);
+    }
+    Ok(sections)
+}
+
+impl Flat {
+    /// The module of these instructions, of which there are fewer than 2^32.
+    pub fn new(alloc: Global, header: Header, insts: InstList) -> Result<Flat, NoMemory>
+        requires { length insts < 2 ^ 32 }
+        ensures { IfOk result (λ flat. flat ≡ record { header = header; insts = insts }) }
+    {
+        let sections = sections(alloc, &insts)?;
+        Ok(Flat {
+            header,
+            insts,
+            sections,
+        })
+    }
+
+    /// The header.
+    pub fn header(&self) -> Header
+        ensures { result ≡ self.now.header }
+    {
+        self.header
+    }
+
+    /// The instructions, in order.
+    pub fn insts(&self) -> &InstList
+        ensures { result.now ≡ self.now.insts }
+    {
+        &self.insts
+    }
+
+    /// The number of instructions.
+    pub fn count(&self) -> u32
+        ensures { result ≡ length self.now.insts }
+    {
+        self.insts.count() as u32
+    }
+
+    /// The number of functions: of OpFunction among the instructions.
+    pub fn functions(&self) -> u32
+        ensures { result ≡ count_by is_function self.now.insts }
+    {
+        count_functions(&self.insts) as u32
+    }
+
+    /// The k-th instruction, counted from 0.
+    pub fn at(&self, k: u32) -> View<'_>
+        requires { k < length self.now.insts }
+        ensures { slice_get self.now.insts k ≡ Some (seen result) }
+    {
+        self.insts.at(k as usize)
+    }
+
+    /// The section of the k-th instruction, counted from 0, by the names of `section`.
+    pub fn section(&self, k: u32) -> u8
+        requires { k < length self.now.insts }
+        ensures { result ≡ slice_index (sections_of self.now.insts) k }
+    {
+        self.sections[k as usize]
+    }
 }

@@ -1,5 +1,5 @@
-ghost use Rattle.std.specs.Prelude.{◌≡◌, ◌≤◌, ◌<◌, ◌^◌, length, []};
-ghost use Rattle.spv_module.specs.Reading.{Front};
+ghost use Rattle.std.specs.Prelude.{◌≡◌, ◌+◌, ◌<◌, ◌^◌, length, []};
+ghost use Rattle.spv_module.specs.Reading.{Front, ReadsAll};
 
 use crate::list::InstList;
 use crate::rules::broken_rule;
@@ -39,4 +39,30 @@ fn front(
         Some(rule) => Err(Fault::Refused(Refusal { rule, at })),
         None => Ok(count),
     }
+}
+
+/// The instructions that `words` spell, the first of which stands at the place `at`. Refuses by the first
+/// rule that one of them breaks.
+pub fn read_instructions(
+    alloc: Global,
+    bound: u32,
+    at: u32,
+    words: &[u32],
+) -> Result<InstList, Fault>
+    requires { at + length words.now < 2 ^ 32 }
+    ensures { ReadsAll bound at words.now result }
+{
+    let mut insts = InstList::new(alloc);
+    let mut roles = Vec::new(alloc);
+    let mut place = at;
+    let mut rest = words;
+    'instructions: while !rest.is_empty() {
+        roles.clear();
+        let count = front(alloc, bound, place, rest, &mut roles)?;
+        let (inst, behind) = rest.split_at(count);
+        insts.push_view(View::new(place, inst, &roles))?;
+        place += count as u32;
+        rest = behind;
+    }
+    Ok(insts)
 }

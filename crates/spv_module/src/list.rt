@@ -30,7 +30,9 @@ impl Model for InstList {
     ghost use Rattle.spv_module.specs.List.{instruction_at, IsSpan};
 
     ghost Value = { List Instruction };
+
     ghost view = { λ list. map (instruction_at list.pool.words.items) list.spans.items };
+
     ghost invariant = { λ list. All (IsSpan list.pool.words.items list.pool.roles.items) list.spans.items };
 }
 

@@ -20,10 +20,7 @@ fn is_out_of_bound(bound: u32, id: u32) -> bool
 fn has_id_out_of_bound(bound: u32, roles: &[Role], words: &[u32]) -> bool
     ensures { result ≡ list_any (λ part. names_id part.0 && out_of_bound bound part.1) (zip roles.now words.now) }
 {
-    roles
-        .iter()
-        .zip(words)
-        .any(|(role, word)| role.names_id() && is_out_of_bound(bound, *word))
+    roles.iter().zip(words).any(|(role, word)| role.names_id() && is_out_of_bound(bound, *word))
 }
 
 fn has_bad_octets(roles: &[Role]) -> bool
