@@ -1,3 +1,4 @@
+pub mod Spelling
 pub mod Silence
 pub mod Renaming
 pub mod Schedules

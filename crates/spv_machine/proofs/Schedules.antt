@@ -14,7 +14,7 @@ use Rattle.spv_machine.specs.State.{State}
 use Rattle.spv_machine.specs.Steps.{program}
 use Rattle.spv_machine.specs.Alike.{Renaming, IsOneToOne, SameAccess, NearMemory}
 use Rattle.spv_machine.specs.Machine.{setting_of, workgroup_size, Trace, Ends, Finals, invocation_count}
-use Rattle.spv_machine.specs.Laws.{Keeps, SchedulesLaw}
+use Rattle.spv_machine.specs.Laws.{Keeps, SchedulesLaw, ModulesLaw}
 use Rattle.spv_machine.proofs.Renaming.{after_near, answer_near, barrier_near, load_changes_nothing, load_is_no_barrier}
 
 count_is : (m m2 : Code) (d : Dispatch) (s : Specialisation) → workgroup_size m2 d ≡ workgroup_size m (specialised d s) → invocations (setting_of m2 d) ≡ invocations (setting_of m (specialised d s))
@@ -77,3 +77,7 @@ pub schedules_law : SchedulesLaw
 schedules_law m m2 d s left_out r one plain size keeps ends =
     let same = by_machine m m2 d s left_out r one plain size keeps ends in
     record { ends = ends_there m m2 d s r same; finals = finals_there m m2 d s r same }
+
+pub modules_law : ModulesLaw
+modules_law m m2 before left_out r one plain size keeps d fits ends =
+    schedules_law m m2 d (before d.specialisation) left_out r one plain (size d) (keeps d fits) ends

@@ -1,9 +1,9 @@
 -- Modules that say the same mean the same, and instructions that say nothing may go.
-use Rattle.std.proofs.Common.{◌≡◌, ℕ, Bool, true, false, not, cond, ◌||◌, List, [], ◌∷◌, refl, sym, ap, ◌∙◌, subst}
+use Rattle.std.proofs.Common.{◌≡◌, ℕ, Bool, true, false, not, cond, ◌||◌, List, [], ◌∷◌, drop, refl, sym, ap, ◌∙◌, subst}
 use Rattle.std.specs.Prelude.{◌↔◌, filter}
 use Rattle.interleaving.specs.Machine as machine
 use Rattle.interleaving.specs.Trace as alone
-use Rattle.spv_module.specs.Code.{Code}
+use Rattle.spv_module.specs.Code.{Code, code_of, spelling}
 use Rattle.spv_module.specs.Instruction.{Instruction, opcode}
 use Rattle.spv_machine.specs.Statements.{Statement, is_debug, is_debug_opcode, is_line_opcode, is_silent, said, statements_in, words_of}
 use Rattle.spv_machine.specs.Dispatch.{Bound, Dispatch}
@@ -11,7 +11,8 @@ use Rattle.spv_machine.specs.Setting.{setting, size_in, FitsStatements, invocati
 use Rattle.spv_machine.specs.Effects.{Shared, effects}
 use Rattle.spv_machine.specs.Steps.{look, first_state, program}
 use Rattle.spv_machine.specs.Machine.{statements, Fits, workgroup_size, Trace, Ends, Finals, invocation_count}
-use Rattle.spv_machine.specs.Laws.{MeansSame, StripLaw, SilenceLaw}
+use Rattle.spv_machine.specs.Laws.{MeansSame, StripLaw, SilenceLaw, StripWordsLaw, without_debug}
+use Rattle.spv_machine.proofs.Spelling.{spelled_again, filtered_counted, cut_counted}
 
 both_ways : {X : Type 0} (P : X → Type 0) (x y : X) → y ≡ x → P x ↔ P y
 both_ways P x y e = (subst P (sym e), subst P e)
@@ -80,3 +81,9 @@ debug_is_silent i h = silent_by (is_debug_opcode (opcode i)) (is_line_opcode (op
 
 pub strip_law : StripLaw
 strip_law m m2 same d = silence_law m m2 (λ i. not (is_debug i)) debug_is_silent same d
+
+pub strip_words_law : StripWordsLaw
+strip_words_law words header d =
+    let m2 : Code = without_debug header words in
+    strip_law (code_of words) (code_of (spelling m2))
+    (spelled_again m2 (filtered_counted (λ i. not (is_debug i)) (code_of words).insts (cut_counted 5 0 (drop 5 words)))) d

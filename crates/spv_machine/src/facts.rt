@@ -7,20 +7,21 @@ ghost use Rattle.spv_opcodes.specs.declared.builtin.TheConstants as builtin;
 ghost use Rattle.spv_opcodes.specs.declared.storage_class.TheConstants as storage_class;
 ghost use Rattle.spv_value.specs.Arith.{i_mul};
 ghost use Rattle.spv_machine.specs.Statements.{is_debug};
-ghost use Rattle.spv_machine.specs.Types.{cells};
-ghost use Rattle.spv_machine.specs.Places.{Buffer, Workgroup, object_at, locate};
-ghost use Rattle.spv_machine.specs.Dispatch.{Bound};
+ghost use Rattle.spv_machine.specs.Types.{Array, Vector, Struct, Member, NoMember, cells, spots};
+ghost use Rattle.spv_machine.specs.Places.{Buffer, Workgroup, object_at, locate, and_then};
+ghost use Rattle.spv_machine.specs.Dispatch.{Bound, IsDispatch};
 ghost use Rattle.spv_machine.specs.Constants.{table_of, type_at, words_at};
 ghost use Rattle.spv_machine.specs.Setting.{setting, array_lengths, builtin_words, workgroup_id, local_id};
 ghost use Rattle.spv_machine.specs.Effects.{Shared, after, answer};
-ghost use Rattle.spv_machine.specs.Machine.{Fits, workgroup_size, Trace, Ends, Finals, setting_of};
+ghost use Rattle.spv_machine.specs.Steps.{first_state};
+ghost use Rattle.spv_machine.specs.Machine.{Fits, workgroup_size, Trace, Ends, Finals, setting_of, PrivateStep, Standing, Const, Cells, Spots};
 ghost use Rattle.spv_machine.specs.Laws.{KeepsWords};
 ghost use Rattle.spv_machine.specs.Doubling.{doubling, stripped, doubling_by_two, doubling_one_word, doubling_behind, doubling_apart, doubling_twice, volatile_variable, volatile_member, volatile_load, unsized, squaring, on, buffer};
 ghost use Rattle.spv_machine.specs.Facts.{one_by_one, volatilities, at_word, doubling_load, doubling_store, atomic, storing, loading, holding, group, uint, pairs_type, pairs, alone_in, swapping, calling, unknown, specialising};
 
 /// The doubling shader leaves the buffer 5, 6, 7 as 10, 12, 14, before and after its debug instructions are dropped, though
 /// most of its 64 invocations are past the end. Each takes seven steps. It loads and stores at its own word; an answer is
-/// read modulo 2^32, a missing word is 0, and further words do not count. An array may begin behind a member, and its
+/// read modulo 2^32, a missing word is 0, and further words do not count. Three private steps lead before the load. An array may begin behind a member, and its
 /// elements may lie apart.
 pub fn facts_of_doubling()
     ensures doubles { Finals doubling (on (5 ∷ 6 ∷ 7 ∷ [])) (buffer (10 ∷ 12 ∷ 14 ∷ [])) }
@@ -30,6 +31,8 @@ pub fn facts_of_doubling()
     ensures not_six { (i : ℕ) → i < 64 → (Trace doubling (on (5 ∷ 6 ∷ 7 ∷ [])) i 6 ([] ∷ [] ∷ [])).end ≡ Runs }
     ensures trace { (w : ℕ) (more : List ℕ) → Trace doubling (on (5 ∷ 6 ∷ 7 ∷ [])) 1 7 ((w ∷ more) ∷ [] ∷ []) ≡ record { accesses = doubling_load (at_word 1) ∷ doubling_store (at_word 1) (i_mul 32 (w % 2 ^ 32) 2) ∷ []; end = Returned } }
     ensures missing_word { Trace doubling (on (5 ∷ 6 ∷ 7 ∷ [])) 2 7 ([] ∷ [] ∷ []) ≡ record { accesses = doubling_load (at_word 2) ∷ doubling_store (at_word 2) 0 ∷ []; end = Returned } }
+    ensures stands { and_then (and_then (and_then (PrivateStep doubling (on (5 ∷ [])) (first_state (setting_of doubling (on (5 ∷ []))) 0)) (PrivateStep doubling (on (5 ∷ [])))) (PrivateStep doubling (on (5 ∷ [])))) (Standing doubling (on (5 ∷ []))) ≡ Some (doubling_load (at_word 0)) }
+    ensures stands_not_before { Standing doubling (on (5 ∷ [])) (first_state (setting_of doubling (on (5 ∷ []))) 0) ≡ None }
     ensures behind { Finals doubling_behind (on (5 ∷ 6 ∷ 7 ∷ [])) (buffer (5 ∷ 12 ∷ 14 ∷ [])) }
     ensures apart { Finals doubling_apart (on (5 ∷ 6 ∷ 7 ∷ 8 ∷ [])) (buffer (10 ∷ 6 ∷ 14 ∷ 8 ∷ [])) }
 {}
@@ -62,9 +65,11 @@ pub fn facts_of_two_invocations()
     ensures none_lost { Finals doubling_one_word (on (5 ∷ [])) (buffer (20 ∷ [])) }
 {}
 
-/// A dispatch fits where its entry point is there and has a workgroup size, and each array has a length. Of two entry
+/// A dispatch has words of 32 bits. It fits where its entry point is there and has a workgroup size, and each array has a length. Of two entry
 /// points of one name the first counts. Invocations are counted along x, then y, then z.
 pub fn facts_of_dispatches()
+    ensures in_range { IsDispatch (on (5 ∷ 0xFFFF_FFFF ∷ [])) }
+    ensures out_of_range { IsDispatch (on (0x1_0000_0000 ∷ [])) → ⊥ }
     ensures fits { Fits doubling (on []) }
     ensures size { workgroup_size doubling (on []) ≡ Some (record { x = 64; y = 1; z = 1 }) }
     ensures other_name { Fits doubling (record (on []) { entry = codes "other" }) → ⊥ }
@@ -84,6 +89,7 @@ pub fn facts_of_effects()
     ensures loads { answer (loading (Buffer 0 0) 1) (holding (5 ∷ 6 ∷ [])) ≡ 6 ∷ [] }
     ensures store { after (storing (Buffer 0 0) (1 ∷ []) (9 ∷ [])) (holding (5 ∷ 6 ∷ 7 ∷ [])) ≡ holding (5 ∷ 9 ∷ 7 ∷ []) }
     ensures other_binding { after (storing (Buffer 0 1) (0 ∷ []) (9 ∷ [])) (holding (5 ∷ 6 ∷ [])) ≡ holding (5 ∷ 6 ∷ []) }
+    ensures first_of_two { after (storing (Buffer 0 0) (0 ∷ []) (9 ∷ [])) (record { buffers = record { set = 0; binding = 0; words = 5 ∷ [] } ∷ buffer (6 ∷ []); cells = [] }) ≡ record { buffers = record { set = 0; binding = 0; words = 9 ∷ [] } ∷ buffer (6 ∷ []); cells = [] } }
     ensures in_order { after (storing (Buffer 0 0) (0 ∷ 0 ∷ []) (8 ∷ 9 ∷ [])) (holding (5 ∷ [])) ≡ holding (9 ∷ []) }
     ensures begins_as_zero { answer (loading (Workgroup (group 0) 4) 2) (holding []) ≡ 0 ∷ [] }
     ensures workgroup { answer (loading (Workgroup (group 0) 4) 2) (after (storing (Workgroup (group 0) 4) (2 ∷ []) (9 ∷ [])) (holding [])) ≡ 9 ∷ [] }
@@ -124,10 +130,20 @@ pub fn facts_of_control()
     ensures no_function { alone_in [] 1 [] ≡ ended Stuck }
 {}
 
-/// A specialisation gives words to the constants that it names, and no others; of two for one number the first counts; a
+/// A constant has words, and a type a number of words, which lie as strides and offsets say, or packed. A specialisation
+/// gives words to the constants that it names, and no others; of two for one number the first counts; a
 /// missing word is 0, and a boolean is 1 where the word is not 0. An array may be as long as such a constant; one of a
 /// negative length has no words.
 pub fn facts_of_constants()
+    ensures constant { Const doubling [] 15 ≡ Some (2 ∷ []) }
+    ensures no_constant { Const doubling [] 4 ≡ None }
+    ensures vector { Cells doubling [] 9 ≡ 3 }
+    ensures open_array { Cells doubling [] 4 ≡ 0 }
+    ensures packed { Spots doubling [] 9 storage_class.INPUT ≡ 0 ∷ 1 ∷ 2 ∷ [] }
+    ensures laid { spots true (Array 4 2 (Vector 2 uint)) ≡ 0 ∷ 1 ∷ 4 ∷ 5 ∷ [] }
+    ensures not_laid { spots false (Array 4 2 (Vector 2 uint)) ≡ 0 ∷ 1 ∷ 2 ∷ 3 ∷ [] }
+    ensures laid_members { spots true (Struct (Member 0 false uint (Member 2 false uint NoMember))) ≡ 0 ∷ 2 ∷ [] }
+    ensures packed_members { spots false (Struct (Member 0 false uint (Member 2 false uint NoMember))) ≡ 0 ∷ 1 ∷ [] }
     ensures default { words_at (table_of specialising []) 25 ≡ 4 ∷ [] }
     ensures given { words_at (table_of specialising ((7, 9 ∷ 3 ∷ []) ∷ [])) 25 ≡ 9 ∷ [] }
     ensures not_named { words_at (table_of specialising ((8, 9 ∷ []) ∷ [])) 25 ≡ 4 ∷ [] }

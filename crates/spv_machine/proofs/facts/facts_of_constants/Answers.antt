@@ -15,6 +15,42 @@ use Rattle.spv_machine.specs.Steps.{look, first_state}
 use Rattle.spv_machine.specs.Machine.{Trace, Fits, workgroup_size, invocation_count}
 use Rattle.spv_machine.proofs.facts.facts_of_constants.Goals as goal
 
+pub returns-clause-constant : goal.returns-clause-constant
+unfolding cut statements_in bytes_of_words setting locate after answer outcome look first_state Trace Fits workgroup_size invocation_count Eval op_rules i_mul i_add i_sub wrapped signed u_min u_max s_min s_max bitwise_and bitwise_or bitwise_xor bits_of number_of
+returns-clause-constant c = refl
+
+pub returns-clause-no_constant : goal.returns-clause-no_constant
+unfolding cut statements_in bytes_of_words setting locate after answer outcome look first_state Trace Fits workgroup_size invocation_count Eval op_rules i_mul i_add i_sub wrapped signed u_min u_max s_min s_max bitwise_and bitwise_or bitwise_xor bits_of number_of
+returns-clause-no_constant c = refl
+
+pub returns-clause-vector : goal.returns-clause-vector
+unfolding cut statements_in bytes_of_words setting locate after answer outcome look first_state Trace Fits workgroup_size invocation_count Eval op_rules i_mul i_add i_sub wrapped signed u_min u_max s_min s_max bitwise_and bitwise_or bitwise_xor bits_of number_of
+returns-clause-vector c = refl
+
+pub returns-clause-open_array : goal.returns-clause-open_array
+unfolding cut statements_in bytes_of_words setting locate after answer outcome look first_state Trace Fits workgroup_size invocation_count Eval op_rules i_mul i_add i_sub wrapped signed u_min u_max s_min s_max bitwise_and bitwise_or bitwise_xor bits_of number_of
+returns-clause-open_array c = refl
+
+pub returns-clause-packed : goal.returns-clause-packed
+unfolding cut statements_in bytes_of_words setting locate after answer outcome look first_state Trace Fits workgroup_size invocation_count Eval op_rules i_mul i_add i_sub wrapped signed u_min u_max s_min s_max bitwise_and bitwise_or bitwise_xor bits_of number_of
+returns-clause-packed c = refl
+
+pub returns-clause-laid : goal.returns-clause-laid
+unfolding cut statements_in bytes_of_words setting locate after answer outcome look first_state Trace Fits workgroup_size invocation_count Eval op_rules i_mul i_add i_sub wrapped signed u_min u_max s_min s_max bitwise_and bitwise_or bitwise_xor bits_of number_of
+returns-clause-laid c = refl
+
+pub returns-clause-not_laid : goal.returns-clause-not_laid
+unfolding cut statements_in bytes_of_words setting locate after answer outcome look first_state Trace Fits workgroup_size invocation_count Eval op_rules i_mul i_add i_sub wrapped signed u_min u_max s_min s_max bitwise_and bitwise_or bitwise_xor bits_of number_of
+returns-clause-not_laid c = refl
+
+pub returns-clause-laid_members : goal.returns-clause-laid_members
+unfolding cut statements_in bytes_of_words setting locate after answer outcome look first_state Trace Fits workgroup_size invocation_count Eval op_rules i_mul i_add i_sub wrapped signed u_min u_max s_min s_max bitwise_and bitwise_or bitwise_xor bits_of number_of
+returns-clause-laid_members c = refl
+
+pub returns-clause-packed_members : goal.returns-clause-packed_members
+unfolding cut statements_in bytes_of_words setting locate after answer outcome look first_state Trace Fits workgroup_size invocation_count Eval op_rules i_mul i_add i_sub wrapped signed u_min u_max s_min s_max bitwise_and bitwise_or bitwise_xor bits_of number_of
+returns-clause-packed_members c = refl
+
 pub returns-clause-default : goal.returns-clause-default
 unfolding cut statements_in bytes_of_words setting locate after answer outcome look first_state Trace Fits workgroup_size invocation_count Eval op_rules i_mul i_add i_sub wrapped signed u_min u_max s_min s_max bitwise_and bitwise_or bitwise_xor bits_of number_of
 returns-clause-default c = refl

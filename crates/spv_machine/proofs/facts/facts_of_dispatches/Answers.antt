@@ -1,4 +1,4 @@
-use Rattle.std.proofs.Common.{refl, arith}
+use Rattle.std.proofs.Common.{◌<◌, ◌^◌, refl, arith}
 use Rattle.spv_module.specs.Code.{cut}
 use Rattle.spv_words.specs.Words.{bytes_of_words}
 use Rattle.spv_value.specs.Eval.{Eval, op_rules}
@@ -14,6 +14,21 @@ use Rattle.spv_machine.specs.Operations.{outcome}
 use Rattle.spv_machine.specs.Steps.{look, first_state}
 use Rattle.spv_machine.specs.Machine.{Trace, Fits, workgroup_size, invocation_count}
 use Rattle.spv_machine.proofs.facts.facts_of_dispatches.Goals as goal
+
+pub returns-clause-in_range : goal.returns-clause-in_range
+unfolding cut statements_in bytes_of_words setting locate after answer outcome look first_state Trace Fits workgroup_size invocation_count Eval op_rules i_mul i_add i_sub wrapped signed u_min u_max s_min s_max bitwise_and bitwise_or bitwise_xor bits_of number_of
+returns-clause-in_range c = record {
+  entry = (omega arith, (omega arith, (omega arith, (omega arith, tt))));
+  groups = (omega arith, (omega arith, (omega arith, tt)));
+  specialisation = tt;
+  uniforms = tt;
+  push = tt;
+  buffers = (record { set = omega arith; binding = omega arith; words = (omega arith, (omega arith, tt)) }, tt);
+}
+
+pub returns-clause-out_of_range : goal.returns-clause-out_of_range
+unfolding cut statements_in bytes_of_words setting locate after answer outcome look first_state Trace Fits workgroup_size invocation_count Eval op_rules i_mul i_add i_sub wrapped signed u_min u_max s_min s_max bitwise_and bitwise_or bitwise_xor bits_of number_of
+returns-clause-out_of_range c = λ h. let bad : 0x1_0000_0000 < 2 ^ 32 = h.buffers.0.words.0 in absurd (omega (arith, bad))
 
 pub returns-clause-fits : goal.returns-clause-fits
 unfolding cut statements_in bytes_of_words setting locate after answer outcome look first_state Trace Fits workgroup_size invocation_count Eval op_rules i_mul i_add i_sub wrapped signed u_min u_max s_min s_max bitwise_and bitwise_or bitwise_xor bits_of number_of

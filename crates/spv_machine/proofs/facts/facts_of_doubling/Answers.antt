@@ -47,6 +47,14 @@ pub returns-clause-missing_word : goal.returns-clause-missing_word
 unfolding cut statements_in bytes_of_words setting locate after answer outcome look first_state Trace Fits workgroup_size invocation_count Eval op_rules i_mul i_add i_sub wrapped signed u_min u_max s_min s_max bitwise_and bitwise_or bitwise_xor bits_of number_of
 returns-clause-missing_word c = refl
 
+pub returns-clause-stands : goal.returns-clause-stands
+unfolding cut statements_in bytes_of_words setting locate after answer outcome look first_state Trace Fits workgroup_size invocation_count Eval op_rules i_mul i_add i_sub wrapped signed u_min u_max s_min s_max bitwise_and bitwise_or bitwise_xor bits_of number_of
+returns-clause-stands c = refl
+
+pub returns-clause-stands_not_before : goal.returns-clause-stands_not_before
+unfolding cut statements_in bytes_of_words setting locate after answer outcome look first_state Trace Fits workgroup_size invocation_count Eval op_rules i_mul i_add i_sub wrapped signed u_min u_max s_min s_max bitwise_and bitwise_or bitwise_xor bits_of number_of
+returns-clause-stands_not_before c = refl
+
 pub returns-clause-behind : goal.returns-clause-behind
 unfolding cut statements_in bytes_of_words setting locate after answer outcome look first_state Trace Fits workgroup_size invocation_count Eval op_rules i_mul i_add i_sub wrapped signed u_min u_max s_min s_max bitwise_and bitwise_or bitwise_xor bits_of number_of
 returns-clause-behind c = finals_by doubling_behind (on (5 ∷ 6 ∷ 7 ∷ [])) (one_by_one 64 7) (buffer (5 ∷ 12 ∷ 14 ∷ [])) refl

@@ -31,6 +31,10 @@ pub returns-clause-other_binding : goal.returns-clause-other_binding
 unfolding cut statements_in bytes_of_words setting locate after answer outcome look first_state Trace Fits workgroup_size invocation_count Eval op_rules i_mul i_add i_sub wrapped signed u_min u_max s_min s_max bitwise_and bitwise_or bitwise_xor bits_of number_of
 returns-clause-other_binding c = refl
 
+pub returns-clause-first_of_two : goal.returns-clause-first_of_two
+unfolding cut statements_in bytes_of_words setting locate after answer outcome look first_state Trace Fits workgroup_size invocation_count Eval op_rules i_mul i_add i_sub wrapped signed u_min u_max s_min s_max bitwise_and bitwise_or bitwise_xor bits_of number_of
+returns-clause-first_of_two c = refl
+
 pub returns-clause-in_order : goal.returns-clause-in_order
 unfolding cut statements_in bytes_of_words setting locate after answer outcome look first_state Trace Fits workgroup_size invocation_count Eval op_rules i_mul i_add i_sub wrapped signed u_min u_max s_min s_max bitwise_and bitwise_or bitwise_xor bits_of number_of
 returns-clause-in_order c = refl
