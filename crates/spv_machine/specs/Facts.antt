@@ -1,15 +1,17 @@
 -- The words of facts on small shaders.
-use Rattle.std.specs.Prelude.{ℕ, zero, suc, ◌++◌, Bool, false, List, [], ◌∷◌, map, replicate, codes, Option, Some}
+use Rattle.std.specs.Prelude.{ℕ, zero, suc, ◌++◌, Bool, false, List, [], ◌∷◌, map, replicate, codes, Option, Some, None}
 use Rattle.interleaving.specs.Trace.{Traces, trace_of}
 use Rattle.spv_opcodes.specs.declared.op.TheConstants as op
 use Rattle.spv_opcodes.specs.declared.decoration.TheConstants as decoration
+use Rattle.spv_opcodes.specs.declared.builtin.TheConstants as builtin
 use Rattle.spv_opcodes.specs.declared.storage_class.TheConstants as storage_class
 use Rattle.spv_machine.specs.Statements as says
 use Rattle.spv_machine.specs.Statements.{Statement}
 use Rattle.spv_machine.specs.Types.{DataType, Integer, Vector, RuntimeArray, Struct, NoMember, Member}
 use Rattle.spv_machine.specs.Places.{Triple, Memory, Buffer, Place, object_at}
-use Rattle.spv_machine.specs.Access.{Loads, Stores, Atomics, Access}
-use Rattle.spv_machine.specs.Setting.{setting}
+use Rattle.spv_machine.specs.Access.{Action, Loads, Stores, Atomics, Access}
+use Rattle.spv_machine.specs.Setting.{Setting, setting}
+use Rattle.spv_machine.specs.State.{Data}
 use Rattle.spv_machine.specs.Effects.{Shared}
 use Rattle.spv_machine.specs.Steps.{look, first_state}
 use Rattle.spv_machine.specs.Doubling.{on, buffer}
@@ -122,6 +124,7 @@ module_of functions =
     ∷ says.TypeBool 21
     ∷ says.TypePointer 22 storage_class.STORAGE_BUFFER 20
     ∷ says.TypePointer 23 storage_class.FUNCTION 20
+    ∷ says.TypePointer 24 storage_class.PRIVATE 20
     ∷ says.Constant 20 31 (1 ∷ [])
     ∷ says.Constant 20 32 (2 ∷ [])
     ∷ says.Constant 21 33 (1 ∷ [])
@@ -172,6 +175,70 @@ calling =
     ∷ says.FunctionEnd
     ∷ []
 
+-- two Private variables, one with an initialiser, are loaded; the first word and the second are stored
+abbrev pub beginning : List Statement
+beginning =
+    says.Variable 24 41 storage_class.PRIVATE (32 ∷ [])
+    ∷ says.Variable 24 42 storage_class.PRIVATE []
+    ∷ says.Function 1
+    ∷ says.Label 2
+    ∷ says.Load 20 10 41 []
+    ∷ says.Store 30 10 []
+    ∷ says.Load 20 11 42 []
+    ∷ says.Store 30 11 []
+    ∷ says.Store 42 31 []
+    ∷ says.Load 20 12 42 []
+    ∷ says.Store 30 12 []
+    ∷ says.Return
+    ∷ says.FunctionEnd
+    ∷ []
+
+-- an atomic addition, whose result is stored; then a fence and a barrier
+abbrev pub ordering : List Statement
+ordering =
+    says.Function 1
+    ∷ says.Label 2
+    ∷ says.Atomic op.ATOMIC_I_ADD (20 ∷ []) (10 ∷ []) 30 31 (32 ∷ []) (31 ∷ [])
+    ∷ says.Store 30 10 []
+    ∷ says.MemoryBarrier 31 32
+    ∷ says.ControlBarrier 32 31 32
+    ∷ says.Return
+    ∷ says.FunctionEnd
+    ∷ []
+
+-- a fence or a barrier of these scopes and semantics
+abbrev pub order : Action → (opcode : ℕ) → (scopes semantics : List (List ℕ)) → Access
+order action opcode scopes semantics = record {
+  action = action;
+  opcode = opcode;
+  place = None;
+  count = 0;
+  operands = [];
+  scopes = scopes;
+  semantics = semantics;
+  memory = [];
+  volatile = false;
+  id = 0;
+}
+
+-- a callee loads through its parameter, which is decorated as volatile, and the caller through the variable, which is not
+abbrev pub passing : List Statement
+passing =
+    says.Decorate 6 decoration.VOLATILE []
+    ∷ says.Function 1
+    ∷ says.Label 2
+    ∷ says.FunctionCall 20 10 5 (30 ∷ [])
+    ∷ says.Load 20 11 30 []
+    ∷ says.Return
+    ∷ says.FunctionEnd
+    ∷ says.Function 5
+    ∷ says.FunctionParameter 22 6
+    ∷ says.Label 7
+    ∷ says.Load 20 9 6 []
+    ∷ says.Return
+    ∷ says.FunctionEnd
+    ∷ []
+
 -- a block whose only other instruction says nothing that a machine can do
 abbrev pub unknown : List Statement
 unknown = says.Function 1 ∷ says.Label 2 ∷ says.Unknown ∷ says.Return ∷ says.FunctionEnd ∷ []
@@ -192,3 +259,29 @@ specialising =
     ∷ says.Constant 28 29 (0xFFFF_FFFF ∷ [])
     ∷ says.TypeArray 30 20 29
     ∷ []
+
+-- ---- dispatches
+
+-- two workgroup sizes of the function 1 by modes, behind constants of one word
+abbrev pub sized_by_modes : List Statement
+sized_by_modes =
+    says.LocalSize 1 (7 ∷ 8 ∷ 9 ∷ [])
+    ∷ says.LocalSizeId 1 (31 ∷ 32 ∷ 31 ∷ [])
+    ∷ says.TypeInt 20 32 0
+    ∷ says.Constant 20 31 (1 ∷ [])
+    ∷ says.Constant 20 32 (2 ∷ [])
+    ∷ []
+
+-- and a constant that is the workgroup size
+abbrev pub sized_by_constant : List Statement
+sized_by_constant = says.Decorate 33 decoration.BUILTIN (builtin.WORKGROUP_SIZE ∷ []) ∷ sized_by_modes ++ (says.ConstantComposite 21 33 (32 ∷ 32 ∷ 31 ∷ []) ∷ [])
+
+-- a uniform block of one word, and two words of push constants
+abbrev pub reading : Setting
+reading = setting [] (record (on []) { uniforms = record { set = 1; binding = 2; words = 5 ∷ [] } ∷ []; push = 6 ∷ 7 ∷ [] })
+
+abbrev pub no_data : Data
+no_data = record { frames = []; privates = []; group = group 0; local = group 0 }
+
+abbrev pub at_words : Memory → List ℕ → Option Place
+at_words memory positions = Some (record { memory = memory; first = 0; positions = positions })

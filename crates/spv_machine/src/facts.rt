@@ -6,18 +6,20 @@ ghost use Rattle.spv_opcodes.specs.declared.op.TheConstants as op;
 ghost use Rattle.spv_opcodes.specs.declared.builtin.TheConstants as builtin;
 ghost use Rattle.spv_opcodes.specs.declared.storage_class.TheConstants as storage_class;
 ghost use Rattle.spv_value.specs.Arith.{i_mul};
-ghost use Rattle.spv_machine.specs.Statements.{is_debug};
-ghost use Rattle.spv_machine.specs.Types.{Array, Vector, Struct, Member, NoMember, cells, spots};
-ghost use Rattle.spv_machine.specs.Places.{Buffer, Workgroup, object_at, locate, and_then};
+ghost use Rattle.spv_machine.specs.Statements.{LocalSize, is_debug};
+ghost use Rattle.spv_machine.specs.Access.{Fences, Barriers};
+ghost use Rattle.spv_machine.specs.State.{read_held};
+ghost use Rattle.spv_machine.specs.Types.{Array, RuntimeArray, Vector, Struct, Member, NoMember, cells, spots};
+ghost use Rattle.spv_machine.specs.Places.{Buffer, Uniform, Push, Workgroup, Private, object_at, locate, and_then};
 ghost use Rattle.spv_machine.specs.Dispatch.{Bound, IsDispatch};
 ghost use Rattle.spv_machine.specs.Constants.{table_of, type_at, words_at};
-ghost use Rattle.spv_machine.specs.Setting.{setting, array_lengths, builtin_words, workgroup_id, local_id};
+ghost use Rattle.spv_machine.specs.Setting.{setting, array_lengths, size_for, builtin_words, workgroup_id, local_id};
 ghost use Rattle.spv_machine.specs.Effects.{Shared, after, answer};
 ghost use Rattle.spv_machine.specs.Steps.{first_state};
 ghost use Rattle.spv_machine.specs.Machine.{Fits, workgroup_size, Trace, Ends, Finals, setting_of, PrivateStep, Standing, Const, Cells, Spots};
 ghost use Rattle.spv_machine.specs.Laws.{KeepsWords};
 ghost use Rattle.spv_machine.specs.Doubling.{doubling, stripped, doubling_by_two, doubling_one_word, doubling_behind, doubling_apart, doubling_twice, volatile_variable, volatile_member, volatile_load, unsized, squaring, on, buffer};
-ghost use Rattle.spv_machine.specs.Facts.{one_by_one, volatilities, at_word, doubling_load, doubling_store, atomic, storing, loading, holding, group, uint, pairs_type, pairs, alone_in, swapping, calling, unknown, specialising};
+ghost use Rattle.spv_machine.specs.Facts.{one_by_one, volatilities, at_word, doubling_load, doubling_store, atomic, storing, loading, holding, group, uint, pairs_type, pairs, alone_in, swapping, calling, beginning, ordering, order, passing, unknown, specialising, sized_by_modes, sized_by_constant, reading, no_data, at_words};
 
 /// The doubling shader leaves the buffer 5, 6, 7 as 10, 12, 14, before and after its debug instructions are dropped, though
 /// most of its 64 invocations are past the end. Each takes seven steps. It loads and stores at its own word; an answer is
@@ -38,8 +40,9 @@ pub fn facts_of_doubling()
 {}
 
 /// An index past the buffer leads to Nowhere, where a load answers 0 and a store changes nothing. Where a buffer ends
-/// inside an element, the element is outside. A negative index is outside. A chain that ends at an array has no words
-/// and is never past the end; one that ends at an object that passes the end is Nowhere.
+/// inside an element, the element is outside, and so is an index past the array's length. A negative index is outside. A chain that ends at an array has no words
+/// and is never past the end; one that ends at an object that passes the end is Nowhere. A whole read or write that passes
+/// the end of its memory is one at Nowhere.
 pub fn facts_of_places()
     ensures past { Trace doubling (on (5 ∷ 6 ∷ 7 ∷ [])) 3 7 ((9 ∷ []) ∷ [] ∷ []) ≡ record { accesses = doubling_load None ∷ doubling_store None 18 ∷ []; end = Returned } }
     ensures reads_zero { (m : Shared) → answer (doubling_load None) m ≡ 0 ∷ [] }
@@ -48,10 +51,19 @@ pub fn facts_of_places()
     ensures element { locate storage_class.STORAGE_BUFFER (Some 6) pairs_type pairs ((1 ∷ []) ∷ (1 ∷ []) ∷ []) ≡ Some (record { memory = Buffer 0 0; first = 3; positions = 3 ∷ 4 ∷ [] }) }
     ensures component { locate storage_class.STORAGE_BUFFER (Some 6) pairs_type pairs ((1 ∷ []) ∷ (1 ∷ []) ∷ (1 ∷ []) ∷ []) ≡ at_word 4 }
     ensures no_element { locate storage_class.STORAGE_BUFFER (Some 6) pairs_type pairs ((1 ∷ []) ∷ (2 ∷ []) ∷ []) ≡ None }
-    ensures negative { locate storage_class.STORAGE_BUFFER (Some 6) pairs_type pairs ((1 ∷ []) ∷ (0xFFFF_FFFF ∷ []) ∷ []) ≡ None }
+    ensures padding { locate storage_class.STORAGE_BUFFER (Some 6) (RuntimeArray 4 (Vector 2 uint)) (at_words (Buffer 0 0) []) ((1 ∷ []) ∷ []) ≡ None }
+    ensures not_negative { locate storage_class.PRIVATE None (Array 1 0xFFFF_FFFF uint) (at_words (Private 4) []) ((0x7FFF_FFFF ∷ []) ∷ []) ≡ Some (record { memory = Private 4; first = 0x7FFF_FFFF; positions = 0x7FFF_FFFF ∷ [] }) }
+    ensures negative { locate storage_class.PRIVATE None (Array 1 0xFFFF_FFFF uint) (at_words (Private 4) []) ((0x8000_0000 ∷ []) ∷ []) ≡ None }
+    ensures no_member { locate storage_class.STORAGE_BUFFER (Some 6) pairs_type pairs ((2 ∷ []) ∷ []) ≡ None }
+    ensures from_nowhere { locate storage_class.STORAGE_BUFFER (Some 6) pairs_type None ((0 ∷ []) ∷ []) ≡ None }
     ensures whole_array { locate storage_class.STORAGE_BUFFER (Some 0) pairs_type pairs ((1 ∷ []) ∷ []) ≡ Some (record { memory = Buffer 0 0; first = 1; positions = [] }) }
     ensures past_member { locate storage_class.STORAGE_BUFFER (Some 0) pairs_type pairs ((0 ∷ []) ∷ []) ≡ None }
     ensures no_index { locate storage_class.STORAGE_BUFFER (Some 0) pairs_type pairs [] ≡ None }
+    ensures uniform { read_held reading no_data 1 (at_words (Uniform 1 2) (0 ∷ [])) ≡ 5 ∷ [] }
+    ensures uniform_cut { read_held reading no_data 2 (at_words (Uniform 1 2) (0 ∷ 1 ∷ [])) ≡ 0 ∷ 0 ∷ [] }
+    ensures other_uniform { read_held reading no_data 1 (at_words (Uniform 1 3) (0 ∷ [])) ≡ 0 ∷ [] }
+    ensures push { read_held reading no_data 1 (at_words Push (1 ∷ [])) ≡ 7 ∷ [] }
+    ensures push_cut { read_held reading no_data 2 (at_words Push (1 ∷ 2 ∷ [])) ≡ 0 ∷ 0 ∷ [] }
     ensures cut_at_access { (w : ℕ) → after (storing (Buffer 0 0) (0 ∷ 1 ∷ []) (w ∷ w ∷ [])) (holding (5 ∷ [])) ≡ holding (5 ∷ []) }
 {}
 
@@ -66,7 +78,8 @@ pub fn facts_of_two_invocations()
 {}
 
 /// A dispatch has words of 32 bits. It fits where its entry point is there and has a workgroup size, and each array has a length. Of two entry
-/// points of one name the first counts. Invocations are counted along x, then y, then z.
+/// points of one name the first counts. A constant that is the workgroup size comes before a LocalSizeId, and that before a
+/// LocalSize. Invocations are counted along x, then y, then z.
 pub fn facts_of_dispatches()
     ensures in_range { IsDispatch (on (5 ∷ 0xFFFF_FFFF ∷ [])) }
     ensures out_of_range { IsDispatch (on (0x1_0000_0000 ∷ [])) → ⊥ }
@@ -76,6 +89,10 @@ pub fn facts_of_dispatches()
     ensures shorter_name { Fits doubling (record (on []) { entry = codes "mai" }) → ⊥ }
     ensures no_size { Fits unsized (on []) → ⊥ }
     ensures first_counts { workgroup_size doubling_twice (on []) ≡ Some (record { x = 64; y = 1; z = 1 }) }
+    ensures by_literals { size_for (LocalSize 1 (7 ∷ 8 ∷ 9 ∷ []) ∷ []) [] 1 ≡ Some (record { x = 7; y = 8; z = 9 }) }
+    ensures other_function { size_for (LocalSize 1 (7 ∷ 8 ∷ 9 ∷ []) ∷ []) [] 2 ≡ None }
+    ensures by_ids { size_for sized_by_modes (table_of sized_by_modes []) 1 ≡ Some (record { x = 1; y = 2; z = 1 }) }
+    ensures by_constant { size_for sized_by_constant (table_of sized_by_constant []) 1 ≡ Some (record { x = 2; y = 2; z = 1 }) }
     ensures workgroup { workgroup_id (setting_of doubling (record (on []) { groups = record { x = 2; y = 3; z = 1 } })) 323 ≡ record { x = 1; y = 2; z = 0 } }
     ensures local { local_id (setting_of doubling (record (on []) { groups = record { x = 2; y = 3; z = 1 } })) 323 ≡ record { x = 3; y = 0; z = 0 } }
     ensures global { builtin_words (setting_of doubling (on [])) (record { x = 2; y = 5; z = 0 }) (record { x = 3; y = 0; z = 0 }) builtin.GLOBAL_INVOCATION_ID ≡ 131 ∷ 5 ∷ 0 ∷ [] }
@@ -120,12 +137,15 @@ pub fn facts_of_effects()
 
 /// The OpPhi of a block get their values at once. A branch stands behind them, a call behind the first label of the callee,
 /// and a return behind the call, each by one step; labels are none. A variable of a function begins as zeros at each call.
-/// An instruction without a meaning leaves the invocation stuck.
+/// Private variables begin with their initialiser, or as zeros. Atomics, fences and barriers are accesses. An instruction
+/// without a meaning leaves the invocation stuck.
 pub fn facts_of_control()
     ensures swaps { alone_in swapping 7 ([] ∷ []) ≡ record { accesses = doubling_store (at_word 0) 1 ∷ []; end = Returned } }
     ensures swaps_in_seven { (alone_in swapping 6 ([] ∷ [])).end ≡ Runs }
     ensures calls { alone_in calling 16 ([] ∷ []) ≡ record { accesses = doubling_store (at_word 0) 2 ∷ []; end = Returned } }
     ensures calls_in_sixteen { (alone_in calling 15 ([] ∷ [])).end ≡ Runs }
+    ensures begins { (alone_in beginning 8 ([] ∷ [] ∷ [] ∷ [])).accesses ≡ doubling_store (at_word 0) 2 ∷ doubling_store (at_word 0) 0 ∷ doubling_store (at_word 0) 1 ∷ [] }
+    ensures orders { alone_in ordering 5 ((7 ∷ []) ∷ [] ∷ [] ∷ [] ∷ []) ≡ record { accesses = record (atomic op.ATOMIC_I_ADD (at_word 0) (1 ∷ [])) { scopes = (1 ∷ []) ∷ []; semantics = (2 ∷ []) ∷ []; id = 10 } ∷ doubling_store (at_word 0) 7 ∷ order Fences op.MEMORY_BARRIER ((1 ∷ []) ∷ []) ((2 ∷ []) ∷ []) ∷ order Barriers op.CONTROL_BARRIER ((2 ∷ []) ∷ (1 ∷ []) ∷ []) ((2 ∷ []) ∷ []) ∷ []; end = Returned } }
     ensures sticks { alone_in unknown 1 [] ≡ ended Stuck }
     ensures no_function { alone_in [] 1 [] ≡ ended Stuck }
 {}
@@ -156,10 +176,11 @@ pub fn facts_of_constants()
     ensures lengths { array_lengths specialising (table_of specialising []) ≡ 4 ∷ 0 ∷ [] }
 {}
 
-/// An access is volatile where its variable or a member on its chain is decorated so, or its memory operands say so.
+/// An access is volatile where its variable or parameter or a member on its chain is decorated so, or its memory operands say so.
 pub fn facts_of_volatility()
     ensures plain { volatilities (Trace doubling (on (5 ∷ [])) 0 7 ([] ∷ [] ∷ [])).accesses ≡ false ∷ false ∷ [] }
     ensures variable { volatilities (Trace volatile_variable (on (5 ∷ [])) 0 7 ([] ∷ [] ∷ [])).accesses ≡ true ∷ true ∷ [] }
     ensures member { volatilities (Trace volatile_member (on (5 ∷ [])) 0 7 ([] ∷ [] ∷ [])).accesses ≡ true ∷ true ∷ [] }
+    ensures parameter { volatilities (alone_in passing 4 ([] ∷ [] ∷ [])).accesses ≡ true ∷ false ∷ [] }
     ensures operand { volatilities (Trace volatile_load (on (5 ∷ [])) 0 7 ([] ∷ [] ∷ [])).accesses ≡ true ∷ false ∷ [] }
 {}

@@ -46,9 +46,25 @@ pub returns-clause-no_element : goal.returns-clause-no_element
 unfolding cut statements_in bytes_of_words setting locate after answer outcome look first_state Trace Fits workgroup_size invocation_count Eval op_rules i_mul i_add i_sub wrapped signed u_min u_max s_min s_max bitwise_and bitwise_or bitwise_xor bits_of number_of
 returns-clause-no_element c = refl
 
+pub returns-clause-padding : goal.returns-clause-padding
+unfolding cut statements_in bytes_of_words setting locate after answer outcome look first_state Trace Fits workgroup_size invocation_count Eval op_rules i_mul i_add i_sub wrapped signed u_min u_max s_min s_max bitwise_and bitwise_or bitwise_xor bits_of number_of
+returns-clause-padding c = refl
+
+pub returns-clause-not_negative : goal.returns-clause-not_negative
+unfolding cut statements_in bytes_of_words setting locate after answer outcome look first_state Trace Fits workgroup_size invocation_count Eval op_rules i_mul i_add i_sub wrapped signed u_min u_max s_min s_max bitwise_and bitwise_or bitwise_xor bits_of number_of
+returns-clause-not_negative c = refl
+
 pub returns-clause-negative : goal.returns-clause-negative
 unfolding cut statements_in bytes_of_words setting locate after answer outcome look first_state Trace Fits workgroup_size invocation_count Eval op_rules i_mul i_add i_sub wrapped signed u_min u_max s_min s_max bitwise_and bitwise_or bitwise_xor bits_of number_of
 returns-clause-negative c = refl
+
+pub returns-clause-no_member : goal.returns-clause-no_member
+unfolding cut statements_in bytes_of_words setting locate after answer outcome look first_state Trace Fits workgroup_size invocation_count Eval op_rules i_mul i_add i_sub wrapped signed u_min u_max s_min s_max bitwise_and bitwise_or bitwise_xor bits_of number_of
+returns-clause-no_member c = refl
+
+pub returns-clause-from_nowhere : goal.returns-clause-from_nowhere
+unfolding cut statements_in bytes_of_words setting locate after answer outcome look first_state Trace Fits workgroup_size invocation_count Eval op_rules i_mul i_add i_sub wrapped signed u_min u_max s_min s_max bitwise_and bitwise_or bitwise_xor bits_of number_of
+returns-clause-from_nowhere c = refl
 
 pub returns-clause-whole_array : goal.returns-clause-whole_array
 unfolding cut statements_in bytes_of_words setting locate after answer outcome look first_state Trace Fits workgroup_size invocation_count Eval op_rules i_mul i_add i_sub wrapped signed u_min u_max s_min s_max bitwise_and bitwise_or bitwise_xor bits_of number_of
@@ -61,6 +77,26 @@ returns-clause-past_member c = refl
 pub returns-clause-no_index : goal.returns-clause-no_index
 unfolding cut statements_in bytes_of_words setting locate after answer outcome look first_state Trace Fits workgroup_size invocation_count Eval op_rules i_mul i_add i_sub wrapped signed u_min u_max s_min s_max bitwise_and bitwise_or bitwise_xor bits_of number_of
 returns-clause-no_index c = refl
+
+pub returns-clause-uniform : goal.returns-clause-uniform
+unfolding cut statements_in bytes_of_words setting locate after answer outcome look first_state Trace Fits workgroup_size invocation_count Eval op_rules i_mul i_add i_sub wrapped signed u_min u_max s_min s_max bitwise_and bitwise_or bitwise_xor bits_of number_of
+returns-clause-uniform c = refl
+
+pub returns-clause-uniform_cut : goal.returns-clause-uniform_cut
+unfolding cut statements_in bytes_of_words setting locate after answer outcome look first_state Trace Fits workgroup_size invocation_count Eval op_rules i_mul i_add i_sub wrapped signed u_min u_max s_min s_max bitwise_and bitwise_or bitwise_xor bits_of number_of
+returns-clause-uniform_cut c = refl
+
+pub returns-clause-other_uniform : goal.returns-clause-other_uniform
+unfolding cut statements_in bytes_of_words setting locate after answer outcome look first_state Trace Fits workgroup_size invocation_count Eval op_rules i_mul i_add i_sub wrapped signed u_min u_max s_min s_max bitwise_and bitwise_or bitwise_xor bits_of number_of
+returns-clause-other_uniform c = refl
+
+pub returns-clause-push : goal.returns-clause-push
+unfolding cut statements_in bytes_of_words setting locate after answer outcome look first_state Trace Fits workgroup_size invocation_count Eval op_rules i_mul i_add i_sub wrapped signed u_min u_max s_min s_max bitwise_and bitwise_or bitwise_xor bits_of number_of
+returns-clause-push c = refl
+
+pub returns-clause-push_cut : goal.returns-clause-push_cut
+unfolding cut statements_in bytes_of_words setting locate after answer outcome look first_state Trace Fits workgroup_size invocation_count Eval op_rules i_mul i_add i_sub wrapped signed u_min u_max s_min s_max bitwise_and bitwise_or bitwise_xor bits_of number_of
+returns-clause-push_cut c = refl
 
 pub returns-clause-cut_at_access : goal.returns-clause-cut_at_access
 unfolding cut statements_in bytes_of_words setting locate after answer outcome look first_state Trace Fits workgroup_size invocation_count Eval op_rules i_mul i_add i_sub wrapped signed u_min u_max s_min s_max bitwise_and bitwise_or bitwise_xor bits_of number_of

@@ -27,6 +27,10 @@ pub returns-clause-member : goal.returns-clause-member
 unfolding cut statements_in bytes_of_words setting locate after answer outcome look first_state Trace Fits workgroup_size invocation_count Eval op_rules i_mul i_add i_sub wrapped signed u_min u_max s_min s_max bitwise_and bitwise_or bitwise_xor bits_of number_of
 returns-clause-member c = refl
 
+pub returns-clause-parameter : goal.returns-clause-parameter
+unfolding cut statements_in bytes_of_words setting locate after answer outcome look first_state Trace Fits workgroup_size invocation_count Eval op_rules i_mul i_add i_sub wrapped signed u_min u_max s_min s_max bitwise_and bitwise_or bitwise_xor bits_of number_of
+returns-clause-parameter c = refl
+
 pub returns-clause-operand : goal.returns-clause-operand
 unfolding cut statements_in bytes_of_words setting locate after answer outcome look first_state Trace Fits workgroup_size invocation_count Eval op_rules i_mul i_add i_sub wrapped signed u_min u_max s_min s_max bitwise_and bitwise_or bitwise_xor bits_of number_of
 returns-clause-operand c = refl
