@@ -1,11 +1,9 @@
 -- Runs that are computed: what a schedule leaves in the buffers.
-use Rattle.std.proofs.Common.{◌≡◌, ℕ, zero, suc, ◌<◌, arith, Bool, true, false, ◌&&◌, ◌||◌, ◌==◌, ◌⊎◌, inl, inr, List, [], ◌∷◌, Some, refl, sym, ap, ◌∙◌}
-use Rattle.std.proofs.lemmas.Bool.{eqb-true, eqb-false, and_parts, or_cases}
+use Rattle.std.proofs.Common.{◌≡◌, ℕ, Bool, true, false, ◌&&◌, ◌||◌, ◌==◌, ◌⊎◌, inl, inr, List, [], ◌∷◌, Some, refl, sym, ap, ◌∙◌}
+use Rattle.std.proofs.lemmas.Bool.{eqb-true, and_parts, or_cases}
 use Rattle.interleaving.specs.Machine.{first_world}
-use Rattle.interleaving.specs.Trace.{TraceEnd, Returned, Asks, Runs, Stuck, Trace}
 use Rattle.interleaving.proofs.Exploring as exploring
 use Rattle.spv_module.specs.Code.{Code}
-use Rattle.spv_machine.specs.Access.{Access}
 use Rattle.spv_machine.specs.Dispatch.{Bound, Dispatch}
 use Rattle.spv_machine.specs.Effects.{Shared, effects}
 use Rattle.spv_machine.specs.Steps.{program}
@@ -92,45 +90,3 @@ either_by m d n one other h others final =
       | inl e ↦ inl (same_buffers_is others one e)
       | inr e ↦ inr (same_buffers_is others other e)
     ]
-
--- ---- traces
-
-abbrev pub same_end : TraceEnd → TraceEnd → Bool
-same_end Returned Returned = true
-same_end Asks Asks = true
-same_end Runs Runs = true
-same_end Stuck Stuck = true
-same_end x y = false
-
-same_end_is : (x y : TraceEnd) → same_end x y ≡ true → x ≡ y
-same_end_is Returned Returned h = refl
-same_end_is Returned Asks h = absurd (cc h)
-same_end_is Returned Runs h = absurd (cc h)
-same_end_is Returned Stuck h = absurd (cc h)
-same_end_is Asks Returned h = absurd (cc h)
-same_end_is Asks Asks h = refl
-same_end_is Asks Runs h = absurd (cc h)
-same_end_is Asks Stuck h = absurd (cc h)
-same_end_is Runs Returned h = absurd (cc h)
-same_end_is Runs Asks h = absurd (cc h)
-same_end_is Runs Runs h = refl
-same_end_is Runs Stuck h = absurd (cc h)
-same_end_is Stuck Returned h = absurd (cc h)
-same_end_is Stuck Asks h = absurd (cc h)
-same_end_is Stuck Runs h = absurd (cc h)
-same_end_is Stuck Stuck h = refl
-
-abbrev pub all_end : TraceEnd → (ℕ → Trace Access) → ℕ → Bool
-all_end x trace zero = true
-all_end x trace (suc n) = same_end (trace n).end x && all_end x trace n
-
-end_at : (x : TraceEnd) (trace : ℕ → Trace Access) (n i : ℕ) → same_end (trace n).end x ≡ true → (i < n → (trace i).end ≡ x) → i < suc n → (b : Bool) → (i == n) ≡ b → (trace i).end ≡ x
-end_at x trace n i h below lt true e = ap (λ k. (trace k).end) (eqb-true i n e) ∙ same_end_is (trace n).end x h
-end_at x trace n i h below lt false e = below (omega (arith, eqb-false i n e))
-
--- each of the first n traces ends so
-pub each_ends : (x : TraceEnd) (trace : ℕ → Trace Access) (n : ℕ) → all_end x trace n ≡ true → (i : ℕ) → i < n → (trace i).end ≡ x
-each_ends x trace zero h i lt = absurd (omega arith)
-each_ends x trace (suc n) h i lt =
-    let parts = and_parts (same_end (trace n).end x) (all_end x trace n) h in
-    end_at x trace n i parts.0 (λ lt2. each_ends x trace n parts.1 i lt2) lt (i == n) refl

@@ -25,12 +25,13 @@ ghost use Rattle.spv_machine.specs.Facts.{one_by_one, volatilities, at_word, dou
 /// most of its 64 invocations are past the end. Each takes seven steps. It loads and stores at its own word; an answer is
 /// read modulo 2^32, a missing word is 0, and further words do not count. Three private steps lead before the load. An array may begin behind a member, and its
 /// elements may lie apart.
+#[tactic(auto, unfolding(spv_module::specs::Code::cut, spv_words::specs::Words::bytes_of_words, crate::specs::Statements::statements_in, crate::specs::Setting::setting, crate::specs::Places::locate, crate::specs::Operations::outcome, crate::specs::Steps::look, crate::specs::Steps::first_state, crate::specs::Machine::Trace, spv_value::specs::Eval::Eval, spv_value::specs::Eval::op_rules, spv_value::specs::Arith::i_mul, spv_value::specs::Numbers::wrapped))]
 pub fn facts_of_doubling()
     ensures doubles { Finals doubling (on (5 ∷ 6 ∷ 7 ∷ [])) (buffer (10 ∷ 12 ∷ 14 ∷ [])) }
     ensures strips { KeepsWords (λ i. not (is_debug i)) doubling stripped }
     ensures doubles_stripped { Finals stripped (on (5 ∷ 6 ∷ 7 ∷ [])) (buffer (10 ∷ 12 ∷ 14 ∷ [])) }
-    ensures seven_steps { (i : ℕ) → i < 64 → (Trace doubling (on (5 ∷ 6 ∷ 7 ∷ [])) i 7 ([] ∷ [] ∷ [])).end ≡ Returned }
-    ensures not_six { (i : ℕ) → i < 64 → (Trace doubling (on (5 ∷ 6 ∷ 7 ∷ [])) i 6 ([] ∷ [] ∷ [])).end ≡ Runs }
+    ensures seven_steps { (words : List ℕ) (i : ℕ) (a b : List ℕ) → (Trace doubling (on words) i 7 (a ∷ b ∷ [])).end ≡ Returned }
+    ensures not_six { (words : List ℕ) (i : ℕ) (a b : List ℕ) → (Trace doubling (on words) i 6 (a ∷ b ∷ [])).end ≡ Runs }
     ensures trace { (w : ℕ) (more : List ℕ) → Trace doubling (on (5 ∷ 6 ∷ 7 ∷ [])) 1 7 ((w ∷ more) ∷ [] ∷ []) ≡ record { accesses = doubling_load (at_word 1) ∷ doubling_store (at_word 1) (i_mul 32 (w % 2 ^ 32) 2) ∷ []; end = Returned } }
     ensures missing_word { Trace doubling (on (5 ∷ 6 ∷ 7 ∷ [])) 2 7 ([] ∷ [] ∷ []) ≡ record { accesses = doubling_load (at_word 2) ∷ doubling_store (at_word 2) 0 ∷ []; end = Returned } }
     ensures stands { and_then (and_then (and_then (PrivateStep doubling (on (5 ∷ [])) (first_state (setting_of doubling (on (5 ∷ []))) 0)) (PrivateStep doubling (on (5 ∷ [])))) (PrivateStep doubling (on (5 ∷ [])))) (Standing doubling (on (5 ∷ []))) ≡ Some (doubling_load (at_word 0)) }
@@ -43,6 +44,7 @@ pub fn facts_of_doubling()
 /// inside an element, the element is outside, and so is an index past the array's length. A negative index is outside. A chain that ends at an array has no words
 /// and is never past the end; one that ends at an object that passes the end is Nowhere. A whole read or write that passes
 /// the end of its memory is one at Nowhere.
+#[tactic(auto, unfolding(spv_module::specs::Code::cut, spv_words::specs::Words::bytes_of_words, crate::specs::Statements::statements_in, crate::specs::Setting::setting, crate::specs::Places::locate, crate::specs::Operations::outcome, crate::specs::Steps::look, crate::specs::Steps::first_state, crate::specs::Machine::Trace, spv_value::specs::Eval::Eval, spv_value::specs::Eval::op_rules, spv_value::specs::Arith::i_mul, spv_value::specs::Numbers::wrapped, crate::specs::Effects::after, crate::specs::Effects::answer))]
 pub fn facts_of_places()
     ensures past { Trace doubling (on (5 ∷ 6 ∷ 7 ∷ [])) 3 7 ((9 ∷ []) ∷ [] ∷ []) ≡ record { accesses = doubling_load None ∷ doubling_store None 18 ∷ []; end = Returned } }
     ensures reads_zero { (m : Shared) → answer (doubling_load None) m ≡ 0 ∷ [] }
@@ -52,6 +54,7 @@ pub fn facts_of_places()
     ensures component { locate storage_class.STORAGE_BUFFER (Some 6) pairs_type pairs ((1 ∷ []) ∷ (1 ∷ []) ∷ (1 ∷ []) ∷ []) ≡ at_word 4 }
     ensures no_element { locate storage_class.STORAGE_BUFFER (Some 6) pairs_type pairs ((1 ∷ []) ∷ (2 ∷ []) ∷ []) ≡ None }
     ensures padding { locate storage_class.STORAGE_BUFFER (Some 6) (RuntimeArray 4 (Vector 2 uint)) (at_words (Buffer 0 0) []) ((1 ∷ []) ∷ []) ≡ None }
+    ensures counted_from_first { locate storage_class.STORAGE_BUFFER (Some 4) (Struct (Member 1 false (RuntimeArray 4 uint) NoMember)) (at_words (Buffer 0 0) []) ((0 ∷ []) ∷ (0 ∷ []) ∷ []) ≡ None }
     ensures not_negative { locate storage_class.PRIVATE None (Array 1 0xFFFF_FFFF uint) (at_words (Private 4) []) ((0x7FFF_FFFF ∷ []) ∷ []) ≡ Some (record { memory = Private 4; first = 0x7FFF_FFFF; positions = 0x7FFF_FFFF ∷ [] }) }
     ensures negative { locate storage_class.PRIVATE None (Array 1 0xFFFF_FFFF uint) (at_words (Private 4) []) ((0x8000_0000 ∷ []) ∷ []) ≡ None }
     ensures no_member { locate storage_class.STORAGE_BUFFER (Some 6) pairs_type pairs ((2 ∷ []) ∷ []) ≡ None }
@@ -80,6 +83,7 @@ pub fn facts_of_two_invocations()
 /// A dispatch has words of 32 bits. It fits where its entry point is there and has a workgroup size, and each array has a length. Of two entry
 /// points of one name the first counts. A constant that is the workgroup size comes before a LocalSizeId, and that before a
 /// LocalSize. Invocations are counted along x, then y, then z.
+#[tactic(auto, unfolding(spv_module::specs::Code::cut, spv_words::specs::Words::bytes_of_words, crate::specs::Statements::statements_in, crate::specs::Setting::setting, crate::specs::Machine::workgroup_size))]
 pub fn facts_of_dispatches()
     ensures in_range { IsDispatch (on (5 ∷ 0xFFFF_FFFF ∷ [])) }
     ensures out_of_range { IsDispatch (on (0x1_0000_0000 ∷ [])) → ⊥ }
@@ -93,14 +97,15 @@ pub fn facts_of_dispatches()
     ensures other_function { size_for (LocalSize 1 (7 ∷ 8 ∷ 9 ∷ []) ∷ []) [] 2 ≡ None }
     ensures by_ids { size_for sized_by_modes (table_of sized_by_modes []) 1 ≡ Some (record { x = 1; y = 2; z = 1 }) }
     ensures by_constant { size_for sized_by_constant (table_of sized_by_constant []) 1 ≡ Some (record { x = 2; y = 2; z = 1 }) }
-    ensures workgroup { workgroup_id (setting_of doubling (record (on []) { groups = record { x = 2; y = 3; z = 1 } })) 323 ≡ record { x = 1; y = 2; z = 0 } }
-    ensures local { local_id (setting_of doubling (record (on []) { groups = record { x = 2; y = 3; z = 1 } })) 323 ≡ record { x = 3; y = 0; z = 0 } }
+    ensures workgroup { workgroup_id (setting_of doubling (record (on []) { groups = record { x = 2; y = 3; z = 2 } })) 643 ≡ record { x = 0; y = 2; z = 1 } }
+    ensures local { local_id (setting_of doubling (record (on []) { groups = record { x = 2; y = 3; z = 2 } })) 643 ≡ record { x = 3; y = 0; z = 0 } }
     ensures global { builtin_words (setting_of doubling (on [])) (record { x = 2; y = 5; z = 0 }) (record { x = 3; y = 0; z = 0 }) builtin.GLOBAL_INVOCATION_ID ≡ 131 ∷ 5 ∷ 0 ∷ [] }
     ensures index { builtin_words (setting_of doubling (on [])) (record { x = 0; y = 0; z = 0 }) (record { x = 3; y = 2; z = 1 }) builtin.LOCAL_INVOCATION_INDEX ≡ 195 ∷ [] }
 {}
 
 /// A load changes nothing. Of words stored at one position the last stays. Each workgroup has its own Workgroup
 /// variables, which begin as zeros. An atomic answers the old word, and writes what its name says; at Nowhere it answers 0.
+#[tactic(auto, unfolding(crate::specs::Effects::after, crate::specs::Effects::answer, spv_value::specs::Arith::i_add, spv_value::specs::Arith::i_sub, spv_value::specs::Numbers::wrapped, spv_value::specs::Numbers::signed, spv_value::specs::Ext::u_min, spv_value::specs::Ext::u_max, spv_value::specs::Ext::s_min, spv_value::specs::Ext::s_max, spv_value::specs::Bits::bitwise_and, spv_value::specs::Bits::bitwise_or, spv_value::specs::Bits::bitwise_xor, spv_value::specs::Bits::bits_of, spv_value::specs::Bits::number_of))]
 pub fn facts_of_effects()
     ensures load { (m : Shared) → after (loading (Buffer 0 0) 0) m ≡ m }
     ensures loads { answer (loading (Buffer 0 0) 1) (holding (5 ∷ 6 ∷ [])) ≡ 6 ∷ [] }
@@ -139,6 +144,7 @@ pub fn facts_of_effects()
 /// and a return behind the call, each by one step; labels are none. A variable of a function begins as zeros at each call.
 /// Private variables begin with their initialiser, or as zeros. Atomics, fences and barriers are accesses. An instruction
 /// without a meaning leaves the invocation stuck.
+#[tactic(auto, unfolding(crate::specs::Setting::setting, crate::specs::Places::locate, crate::specs::Operations::outcome, crate::specs::Steps::look, crate::specs::Steps::first_state, spv_value::specs::Eval::Eval, spv_value::specs::Eval::op_rules, spv_value::specs::Arith::i_add, spv_value::specs::Numbers::wrapped))]
 pub fn facts_of_control()
     ensures swaps { alone_in swapping 7 ([] ∷ []) ≡ record { accesses = doubling_store (at_word 0) 1 ∷ []; end = Returned } }
     ensures swaps_in_seven { (alone_in swapping 6 ([] ∷ [])).end ≡ Runs }
@@ -154,6 +160,7 @@ pub fn facts_of_control()
 /// gives words to the constants that it names, and no others; of two for one number the first counts; a
 /// missing word is 0, and a boolean is 1 where the word is not 0. An array may be as long as such a constant; one of a
 /// negative length has no words.
+#[tactic(auto, unfolding(crate::specs::Statements::statements_in, spv_module::specs::Code::cut, spv_words::specs::Words::bytes_of_words))]
 pub fn facts_of_constants()
     ensures constant { Const doubling [] 15 ≡ Some (2 ∷ []) }
     ensures no_constant { Const doubling [] 4 ≡ None }
@@ -177,6 +184,7 @@ pub fn facts_of_constants()
 {}
 
 /// An access is volatile where its variable or parameter or a member on its chain is decorated so, or its memory operands say so.
+#[tactic(auto, unfolding(spv_module::specs::Code::cut, spv_words::specs::Words::bytes_of_words, crate::specs::Statements::statements_in, crate::specs::Setting::setting, crate::specs::Places::locate, crate::specs::Operations::outcome, crate::specs::Steps::look, crate::specs::Steps::first_state, crate::specs::Machine::Trace))]
 pub fn facts_of_volatility()
     ensures plain { volatilities (Trace doubling (on (5 ∷ [])) 0 7 ([] ∷ [] ∷ [])).accesses ≡ false ∷ false ∷ [] }
     ensures variable { volatilities (Trace volatile_variable (on (5 ∷ [])) 0 7 ([] ∷ [] ∷ [])).accesses ≡ true ∷ true ∷ [] }
