@@ -21,10 +21,10 @@ ghost use Rattle.spv_machine.specs.Laws.{KeepsWords};
 ghost use Rattle.spv_machine.specs.Doubling.{doubling, stripped, doubling_by_two, doubling_one_word, doubling_behind, doubling_apart, doubling_twice, volatile_variable, volatile_member, volatile_load, unsized, squaring, on, buffer};
 ghost use Rattle.spv_machine.specs.Facts.{one_by_one, volatilities, at_word, doubling_load, doubling_store, atomic, storing, loading, holding, group, uint, pairs_type, pairs, alone_in, swapping, calling, beginning, ordering, order, passing, unknown, specialising, sized_by_modes, sized_by_constant, reading, no_data, at_words};
 
-/// The doubling shader leaves the buffer 5, 6, 7 as 10, 12, 14, before and after its debug instructions are dropped, though
-/// most of its 64 invocations are past the end. Each takes seven steps. It loads and stores at its own word; an answer is
-/// read modulo 2^32, a missing word is 0, and further words do not count. Three private steps lead before the load. An array may begin behind a member, and its
-/// elements may lie apart.
+/// The doubling shader leaves the buffer 5, 6, 7 as 10, 12, 14, before and after its debug instructions are dropped,
+/// though most of its 64 invocations are past the end. Each takes seven steps. It loads and stores at its own word; an
+/// answer is read modulo 2^32, a missing word is 0, and further words do not count. Three private steps lead before the
+/// load. An array may begin behind a member, and its elements may lie apart.
 #[tactic(auto, unfolding(spv_module::specs::Code::cut, spv_words::specs::Words::bytes_of_words, crate::specs::Statements::statements_in, crate::specs::Setting::setting, crate::specs::Places::locate, crate::specs::Operations::outcome, crate::specs::Steps::look, crate::specs::Steps::first_state, crate::specs::Machine::Trace, spv_value::specs::Eval::Eval, spv_value::specs::Eval::op_rules, spv_value::specs::Arith::i_mul, spv_value::specs::Numbers::wrapped))]
 pub fn facts_of_doubling()
     ensures doubles { Finals doubling (on (5 ∷ 6 ∷ 7 ∷ [])) (buffer (10 ∷ 12 ∷ 14 ∷ [])) }
@@ -41,9 +41,9 @@ pub fn facts_of_doubling()
 {}
 
 /// An index past the buffer leads to Nowhere, where a load answers 0 and a store changes nothing. Where a buffer ends
-/// inside an element, the element is outside, and so is an index past the array's length. A negative index is outside. A chain that ends at an array has no words
-/// and is never past the end; one that ends at an object that passes the end is Nowhere. A whole read or write that passes
-/// the end of its memory is one at Nowhere.
+/// inside an element, the element is outside, and so is an index past the array's length. A negative index is outside.
+/// A chain that ends at an array has no words and is never past the end; one that ends at an object that passes the end
+/// is Nowhere. A whole read or write that passes the end of its memory is one at Nowhere.
 #[tactic(auto, unfolding(spv_module::specs::Code::cut, spv_words::specs::Words::bytes_of_words, crate::specs::Statements::statements_in, crate::specs::Setting::setting, crate::specs::Places::locate, crate::specs::Operations::outcome, crate::specs::Steps::look, crate::specs::Steps::first_state, crate::specs::Machine::Trace, spv_value::specs::Eval::Eval, spv_value::specs::Eval::op_rules, spv_value::specs::Arith::i_mul, spv_value::specs::Numbers::wrapped, crate::specs::Effects::after, crate::specs::Effects::answer))]
 pub fn facts_of_places()
     ensures past { Trace doubling (on (5 ∷ 6 ∷ 7 ∷ [])) 3 7 ((9 ∷ []) ∷ [] ∷ []) ≡ record { accesses = doubling_load None ∷ doubling_store None 18 ∷ []; end = Returned } }
@@ -80,9 +80,9 @@ pub fn facts_of_two_invocations()
     ensures none_lost { Finals doubling_one_word (on (5 ∷ [])) (buffer (20 ∷ [])) }
 {}
 
-/// A dispatch has words of 32 bits. It fits where its entry point is there and has a workgroup size, and each array has a length. Of two entry
-/// points of one name the first counts. A constant that is the workgroup size comes before a LocalSizeId, and that before a
-/// LocalSize. Invocations are counted along x, then y, then z.
+/// A dispatch has words of 32 bits. It fits where its entry point is there and has a workgroup size, and each array has
+/// a length. Of two entry points of one name the first counts. A constant that is the workgroup size comes before a
+/// LocalSizeId, and that before a LocalSize. Invocations are counted along x, then y, then z.
 #[tactic(auto, unfolding(spv_module::specs::Code::cut, spv_words::specs::Words::bytes_of_words, crate::specs::Statements::statements_in, crate::specs::Setting::setting, crate::specs::Machine::workgroup_size))]
 pub fn facts_of_dispatches()
     ensures in_range { IsDispatch (on (5 ∷ 0xFFFF_FFFF ∷ [])) }
@@ -104,7 +104,8 @@ pub fn facts_of_dispatches()
 {}
 
 /// A load changes nothing. Of words stored at one position the last stays. Each workgroup has its own Workgroup
-/// variables, which begin as zeros. An atomic answers the old word, and writes what its name says; at Nowhere it answers 0.
+/// variables, which begin as zeros. An atomic answers the old word, and writes what its name says; at Nowhere it
+/// answers 0.
 #[tactic(auto, unfolding(crate::specs::Effects::after, crate::specs::Effects::answer, spv_value::specs::Arith::i_add, spv_value::specs::Arith::i_sub, spv_value::specs::Numbers::wrapped, spv_value::specs::Numbers::signed, spv_value::specs::Ext::u_min, spv_value::specs::Ext::u_max, spv_value::specs::Ext::s_min, spv_value::specs::Ext::s_max, spv_value::specs::Bits::bitwise_and, spv_value::specs::Bits::bitwise_or, spv_value::specs::Bits::bitwise_xor, spv_value::specs::Bits::bits_of, spv_value::specs::Bits::number_of))]
 pub fn facts_of_effects()
     ensures load { (m : Shared) → after (loading (Buffer 0 0) 0) m ≡ m }
@@ -140,10 +141,10 @@ pub fn facts_of_effects()
     ensures past { answer (atomic op.ATOMIC_I_ADD (at_word 1) (3 ∷ [])) (holding (6 ∷ [])) ≡ 0 ∷ [] }
 {}
 
-/// The OpPhi of a block get their values at once. A branch stands behind them, a call behind the first label of the callee,
-/// and a return behind the call, each by one step; labels are none. A variable of a function begins as zeros at each call.
-/// Private variables begin with their initialiser, or as zeros. Atomics, fences and barriers are accesses. An instruction
-/// without a meaning leaves the invocation stuck.
+/// The OpPhi of a block get their values at once. A branch stands behind them, a call behind the first label of the
+/// callee, and a return behind the call, each by one step; labels are none. A variable of a function begins as zeros at
+/// each call. Private variables begin with their initialiser, or as zeros. Atomics, fences and barriers are accesses.
+/// An instruction without a meaning leaves the invocation stuck.
 #[tactic(auto, unfolding(crate::specs::Setting::setting, crate::specs::Places::locate, crate::specs::Operations::outcome, crate::specs::Steps::look, crate::specs::Steps::first_state, spv_value::specs::Eval::Eval, spv_value::specs::Eval::op_rules, spv_value::specs::Arith::i_add, spv_value::specs::Numbers::wrapped))]
 pub fn facts_of_control()
     ensures swaps { alone_in swapping 7 ([] ∷ []) ≡ record { accesses = doubling_store (at_word 0) 1 ∷ []; end = Returned } }
@@ -156,8 +157,8 @@ pub fn facts_of_control()
     ensures no_function { alone_in [] 1 [] ≡ ended Stuck }
 {}
 
-/// A constant has words, and a type a number of words, which lie as strides and offsets say, or packed. A specialisation
-/// gives words to the constants that it names, and no others; of two for one number the first counts; a
+/// A constant has words, and a type a number of words, which lie as strides and offsets say, or packed. A
+/// specialisation gives words to the constants that it names, and no others; of two for one number the first counts; a
 /// missing word is 0, and a boolean is 1 where the word is not 0. An array may be as long as such a constant; one of a
 /// negative length has no words.
 #[tactic(auto, unfolding(crate::specs::Statements::statements_in, spv_module::specs::Code::cut, spv_words::specs::Words::bytes_of_words))]
@@ -183,7 +184,8 @@ pub fn facts_of_constants()
     ensures lengths { array_lengths specialising (table_of specialising []) ≡ 4 ∷ 0 ∷ [] }
 {}
 
-/// An access is volatile where its variable or parameter or a member on its chain is decorated so, or its memory operands say so.
+/// An access is volatile where its variable or parameter or a member on its chain is decorated so, or its memory
+/// operands say so.
 #[tactic(auto, unfolding(spv_module::specs::Code::cut, spv_words::specs::Words::bytes_of_words, crate::specs::Statements::statements_in, crate::specs::Setting::setting, crate::specs::Places::locate, crate::specs::Operations::outcome, crate::specs::Steps::look, crate::specs::Steps::first_state, crate::specs::Machine::Trace))]
 pub fn facts_of_volatility()
     ensures plain { volatilities (Trace doubling (on (5 ∷ [])) 0 7 ([] ∷ [] ∷ [])).accesses ≡ false ∷ false ∷ [] }
