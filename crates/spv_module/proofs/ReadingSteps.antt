@@ -1,6 +1,7 @@
 -- One turn of reading instructions.
 use Rattle.std.proofs.Common.{◌≡◌, ℕ, suc, ◌+◌, ◌-◌, ◌<◌, ◌≤◌, Bool, true, false, cond, List, [], ◌∷◌, ◌++◌, length, take, drop, Option, Some, None, Result, Ok, Err, refl, sym, ap, subst, ◌∙◌, arith, append_assoc}
-use Rattle.std.specs.List.{flat_map, slice_index}
+use Rattle.std.specs.List.{All, flat_map, slice_index}
+use Rattle.std.proofs.lemmas.List.Elements.{All-nil, All-push}
 use Rattle.std.proofs.lemmas.List.{length-drop, length-append, take-append-drop, append-nil}
 use Rattle.spv_base.specs.declared.fault.Refusal.{Refusal}
 use Rattle.spv_grammar.specs.declared.kind.Role.{Role}
@@ -8,7 +9,7 @@ use Rattle.spv_grammar.specs.Operands.{count_of}
 use Rattle.spv_module.specs.Broken.{front_rules, broken_from}
 use Rattle.spv_module.specs.Code.{is_cut_short, cut}
 use Rattle.spv_module.specs.First.{here, first, least, at_place}
-use Rattle.spv_module.specs.Instruction.{Instruction}
+use Rattle.spv_module.specs.Instruction.{Instruction, instruction_rules}
 use Rattle.spv_base.specs.declared.fault.Fault.{Fault}
 use Rattle.spv_base.specs.declared.fault.Fault.TheVariants.{Refused, Nesting, NoMemory}
 use Rattle.spv_module.specs.Reading.{IsFront, Front, AreRead, ReadsAll}
@@ -22,9 +23,10 @@ pub record IsRead (bound from : ℕ) (all : List ℕ) (at : ℕ) (rest : List �
   pub spelled : flat_map (λ i. i.words) insts ++ rest ≡ all
   pub place : at + length rest ≡ from + length all
   pub few : length insts + length rest ≤ length all
+  pub each : All (λ i. instruction_rules bound i.words ≡ []) insts
 
 pub begun : (bound from : ℕ) (all : List ℕ) → IsRead bound from all from all []
-begun bound from all = record { broken = refl; list = refl; spelled = refl; place = refl; few = omega arith }
+begun bound from all = record { broken = refl; list = refl; spelled = refl; place = refl; few = omega arith; each = All-nil (λ (i : Instruction). instruction_rules bound i.words ≡ []) }
 
 joined : (insts : List Instruction) (inst : Instruction) (behind rest : List ℕ) → inst.words ++ behind ≡ rest →
     flat_map (λ i. i.words) (insts ++ inst ∷ []) ++ behind ≡ flat_map (λ i. i.words) insts ++ rest
@@ -45,6 +47,7 @@ one_more bound from all at rest insts roles n r f =
       spelled = joined insts inst (drop n rest) rest (take-append-drop n rest) ∙ r.spelled;
       place = omega (arith, r.place, f.within, length-drop n rest);
       few = omega (arith, r.few, f.some, f.within, length-drop n rest, length-append insts (inst ∷ []));
+      each = All-push (λ (i : Instruction). instruction_rules bound i.words ≡ []) insts inst r.each f.rules;
     }
 
 -- the first broken rule is at the instruction in front, where that breaks a rule
@@ -78,6 +81,7 @@ all_read bound from all at rest insts r h =
       all = sym (r.list ∙ ap (λ (more : List Instruction). insts ++ more) none.1 ∙ append-nil insts);
       spelled = sym (append-nil (flat_map (λ i. i.words) insts)) ∙ ap (λ (more : List ℕ). flat_map (λ i. i.words) insts ++ more) (sym none.2) ∙ r.spelled;
       few = omega (arith, r.few);
+      each = r.each;
     }
 
 refused_by : (bound from : ℕ) (all : List ℕ) (at : ℕ) (rest : List ℕ) (insts : List Instruction) (roles : List Role) (fault : Fault) → IsRead bound from all at rest insts → 0 < length rest →

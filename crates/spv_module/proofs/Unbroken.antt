@@ -73,5 +73,6 @@ front_is bound n words roles below counted some within parted unbroken = record 
   counted = counted;
   some = some;
   within = within;
+  rules = unbroken;
   whole = whole_in_front bound n words roles below counted some within parted unbroken;
 }

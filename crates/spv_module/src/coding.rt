@@ -1,4 +1,5 @@
-ghost use Rattle.std.specs.Prelude.{◌≡◌, ◌<◌, ◌^◌, None, length, IfOk};
+ghost use Rattle.std.specs.Prelude.{◌≡◌, ◌<◌, ◌^◌, [], None, length, IfOk, All};
+ghost use Rattle.spv_module.specs.Instruction.{instruction_rules};
 ghost use Rattle.spv_words.specs.Words.{HasHeader};
 ghost use Rattle.spv_module.specs.Broken.{version_rule, header_bound_rule, schema_rule};
 ghost use Rattle.spv_module.specs.Code.{spelling as spelling_of};
@@ -45,7 +46,10 @@ fn broken_header(header: &Header) -> Option<Refusal>
 pub fn decode(alloc: Global, words: &[u32]) -> Result<Flat, Fault>
     requires header { HasHeader words.now }
     requires small { length words.now < 2 ^ 32 }
-    ensures { Decodes words.now result }
+    ensures answer { Decodes words.now result }
+
+    // What follows for a module that was read: each instruction breaks no rule below its bound.
+    ensures each { IfOk result (λ code. All (λ i. instruction_rules code.header.bound i.words ≡ []) code.insts) }
 {
     let header = Header {
         version: words[1],

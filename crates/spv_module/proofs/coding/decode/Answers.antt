@@ -4,8 +4,8 @@ use Rattle.spv_module.specs.Reading.{AreRead}
 use Rattle.spv_module.proofs.Decoding.{header_refuses, read_rises}
 use Rattle.spv_module.proofs.coding.decode.Goals as goal
 
-pub returns-in-Some : goal.returns-in-Some
-returns-in-Some c = header_refuses c.args.words.now c.in-Some.refusal (sym c.broken_header.ensures ∙ c.in-Some.is)
+pub returns-in-Some-clause-answer : goal.returns-in-Some-clause-answer
+returns-in-Some-clause-answer c = header_refuses c.args.words.now c.in-Some.refusal (sym c.broken_header.ensures ∙ c.in-Some.is)
 
 pub broken_layout-requires-clause-rises : goal.broken_layout-requires-clause-rises
 broken_layout-requires-clause-rises c =

@@ -1,0 +1,5 @@
+pub mod Lines
+pub mod Following
+pub mod Ids
+pub mod Greatest
+pub mod Conditions

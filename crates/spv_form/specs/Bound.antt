@@ -1,0 +1,19 @@
+-- The bound of a module's ids.
+use Rattle.std.specs.Prelude.{ℕ, ◌+◌, max, List, [], ◌∷◌}
+use Rattle.std.specs.List.{flat_map}
+use Rattle.spv_grammar.specs.Roles.{names_id}
+use Rattle.spv_module.specs.Instruction.{Instruction}
+use Rattle.spv_form.specs.SingleBlock.{words_with}
+
+-- the ids that instructions name, as a type, a result or an operand
+abbrev pub named_ids : List Instruction → List ℕ
+named_ids insts = flat_map (words_with names_id) insts
+
+-- 0 where there is none
+abbrev pub greatest : List ℕ → ℕ
+greatest [] = 0
+greatest (x ∷ xs) = max x (greatest xs)
+
+-- one more than the greatest id that instructions name (SPIR-V Specification, section 2.3)
+unfoldable pub bound_of_ids : List Instruction → ℕ
+bound_of_ids insts = greatest (named_ids insts) + 1

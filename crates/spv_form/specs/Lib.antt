@@ -1,0 +1,3 @@
+pub mod SingleBlock
+pub mod Bound
+pub mod Steps
