@@ -11,13 +11,13 @@ ghost use Rattle.spv_machine.specs.Access.{Fences, Barriers};
 ghost use Rattle.spv_machine.specs.State.{read_held};
 ghost use Rattle.spv_machine.specs.Types.{Array, RuntimeArray, Vector, Struct, Member, NoMember, cells, spots};
 ghost use Rattle.spv_machine.specs.Places.{Buffer, Uniform, Push, Workgroup, Private, object_at, locate, and_then};
-ghost use Rattle.spv_machine.specs.Dispatch.{Bound, IsDispatch};
+ghost use Rattle.spv_machine.specs.Dispatch.{Bound, Dispatch, IsDispatch};
 ghost use Rattle.spv_machine.specs.Constants.{table_of, type_at, words_at};
 ghost use Rattle.spv_machine.specs.Setting.{setting, array_lengths, size_for, builtin_words, workgroup_id, local_id};
 ghost use Rattle.spv_machine.specs.Effects.{Shared, after, answer};
 ghost use Rattle.spv_machine.specs.Steps.{first_state};
 ghost use Rattle.spv_machine.specs.Machine.{Fits, workgroup_size, Trace, Ends, Finals, setting_of, PrivateStep, Standing, Const, Cells, Spots};
-ghost use Rattle.spv_machine.specs.Laws.{KeepsWords};
+ghost use Rattle.spv_machine.specs.Laws.{KeepsWords, MeansSame};
 ghost use Rattle.spv_machine.specs.Doubling.{doubling, stripped, doubling_by_two, doubling_one_word, doubling_behind, doubling_apart, doubling_twice, volatile_variable, volatile_member, volatile_load, unsized, squaring, on, buffer};
 ghost use Rattle.spv_machine.specs.Facts.{one_by_one, volatilities, at_word, doubling_load, doubling_store, atomic, storing, loading, holding, group, uint, pairs_type, pairs, alone_in, swapping, calling, beginning, ordering, order, passing, unknown, specialising, sized_by_modes, sized_by_constant, reading, no_data, at_words};
 
@@ -29,6 +29,7 @@ ghost use Rattle.spv_machine.specs.Facts.{one_by_one, volatilities, at_word, dou
 pub fn facts_of_doubling()
     ensures doubles { Finals doubling (on (5 ∷ 6 ∷ 7 ∷ [])) (buffer (10 ∷ 12 ∷ 14 ∷ [])) }
     ensures strips { KeepsWords (λ i. not (is_debug i)) doubling stripped }
+    ensures means_same { (d : Dispatch) → MeansSame doubling stripped d }
     ensures doubles_stripped { Finals stripped (on (5 ∷ 6 ∷ 7 ∷ [])) (buffer (10 ∷ 12 ∷ 14 ∷ [])) }
     ensures seven_steps { (words : List ℕ) (i : ℕ) (a b : List ℕ) → (Trace doubling (on words) i 7 (a ∷ b ∷ [])).end ≡ Returned }
     ensures not_six { (words : List ℕ) (i : ℕ) (a b : List ℕ) → (Trace doubling (on words) i 6 (a ∷ b ∷ [])).end ≡ Runs }

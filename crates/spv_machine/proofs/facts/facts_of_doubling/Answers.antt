@@ -13,8 +13,13 @@ use Rattle.spv_machine.specs.Steps.{look, first_state}
 use Rattle.spv_machine.specs.Machine.{Trace}
 use Rattle.spv_machine.specs.Doubling.{doubling, stripped, doubling_behind, doubling_apart, on, buffer}
 use Rattle.spv_machine.specs.Facts.{one_by_one}
+use Rattle.spv_machine.proofs.Silence.{strip_law}
 use Rattle.spv_machine.proofs.Computing.{finals_by}
 use Rattle.spv_machine.proofs.facts.facts_of_doubling.Goals as goal
+
+pub returns-clause-means_same : goal.returns-clause-means_same
+unfolding cut
+returns-clause-means_same c d = strip_law doubling stripped refl d
 
 pub returns-clause-doubles : goal.returns-clause-doubles
 unfolding cut statements_in bytes_of_words setting locate after answer outcome look first_state Trace Eval op_rules i_mul wrapped
