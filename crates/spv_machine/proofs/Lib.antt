@@ -1,0 +1,5 @@
+pub mod Spelling
+pub mod Silence
+pub mod Renaming
+pub mod Schedules
+pub mod Computing

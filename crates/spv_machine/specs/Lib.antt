@@ -1,0 +1,16 @@
+pub mod Statements
+pub mod Types
+pub mod Places
+pub mod Access
+pub mod Dispatch
+pub mod Constants
+pub mod Setting
+pub mod Effects
+pub mod State
+pub mod Operations
+pub mod Steps
+pub mod Machine
+pub mod Alike
+pub mod Laws
+pub mod Doubling
+pub mod Facts
