@@ -3,3 +3,5 @@ pub mod Stripping
 pub mod Telling
 pub mod Answering
 pub mod Bounds
+pub mod Meaning
+pub mod Stopping

@@ -20,7 +20,7 @@ stops_told None ReadFault old mid t f h = h
 stops_told None WriteFault old mid t f h = h
 stops_told None (Limit number) old mid t f h = h
 stops_told None NoMemory old mid t f h = h
-stops_told (Some job) Done old mid t f h = record { bytes = h.bytes; output = h.output; input = record { front = h.input.front; most = h.input.most; whole = h.input.whole }; others = ap {A = Seen} (with_told t f) h.others; short = h.short; answer = h.answer }
+stops_told (Some job) Done old mid t f h = record { bytes = h.bytes; output = h.output; input = record { front = h.input.front; most = h.input.most; whole = h.input.whole }; others = ap {A = Seen} (with_told t f) h.others; short = h.short; answer = h.answer; means = h.means }
 stops_told (Some job) (Refused refusal) old mid t f h = record { bytes = h.bytes; input = record { front = h.input.front; most = h.input.most; whole = h.input.whole }; others = ap {A = Seen} (with_told t f) h.others; short = h.short; broken = h.broken }
 stops_told (Some job) (Usage fault) old mid t f h = h
 stops_told (Some job) ReadFault old mid t f h = record { others = ap {A = Seen} (with_told t f) h.others; names = h.names; taken = h.taken; cause = h.cause }

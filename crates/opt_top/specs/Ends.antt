@@ -8,6 +8,7 @@ use Rattle.opt_top.specs.declared.status.UsageFault.{UsageFault}
 use Rattle.opt_top.specs.declared.status.UsageKind.TheVariants.{NotYet}
 use Rattle.opt_top.specs.Answer.{answer_of}
 use Rattle.opt_top.specs.Job.{FileJob}
+use Rattle.opt_top.specs.Means.{Means}
 use Rattle.opt_top.specs.Moves.{TakesOf}
 use Rattle.opt_top.specs.Status.{message_of}
 
@@ -69,7 +70,7 @@ pub record EndsAtWriting (job : FileJob) (old new : Seen) : Type 0 where
   pub front : (new.written ≡ old.written) ⊎ ((front : List ℕ) × (rest : List ℕ) × (front ++ rest ≡ output) × (new.written ≡ option_map (λ _. front) old.written))
   pub cause : Rises old.write_faults new.write_faults
 
--- The whole output was written.
+-- The whole output was written, and it means what the input means.
 pub record EndsDone (job : FileJob) (old new : Seen) : Type 0 where
   pub bytes : List ℕ
   pub output : List ℕ
@@ -84,6 +85,7 @@ pub record EndsDone (job : FileJob) (old new : Seen) : Type 0 where
   }
   pub short : length bytes ≤ 4194304
   pub answer : answer_of bytes ≡ Ok output
+  pub means : Means bytes output
 
 -- the one fault of words of a form that is not read yet
 abbrev pub not_yet : UsageFault

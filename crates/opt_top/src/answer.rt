@@ -1,7 +1,8 @@
-ghost use Rattle.std.specs.Prelude.{◌≡◌, ◌<◌, ◌≤◌, ◌^◌, IfOk, length};
+ghost use Rattle.std.specs.Prelude.{◌≡◌, ◌<◌, ◌≤◌, ◌^◌, IfOk, Ok, length};
 ghost use Rattle.spv_form.specs.Bound.{bound_of_ids};
 ghost use Rattle.spv_module.specs.Code.{spelling};
-ghost use Rattle.spv_words.specs.Words.{bytes_of_words};
+ghost use Rattle.spv_words.specs.Words.{bytes_of_words, words_in};
+ghost use Rattle.opt_top.specs.Means.{Means};
 ghost use Rattle.opt_top.specs.Answer.{Answers, AnswersModule, ByteFault, answer_of, module_in, stripped};
 
 use crate::strip::strip_debug;
@@ -48,7 +49,8 @@ fn read_module(alloc: Global, bytes: &[u8]) -> Result<Flat, Fault>
 /// The bytes of a module without what says something of its source alone.
 fn write_module(alloc: Global, flat: &Flat) -> Result<ByteList, NoMemory>
     requires { bound_of_ids flat.now.insts < 2 ^ 32 }
-    ensures { IfOk result (λ bytes. bytes ≡ bytes_of_words (spelling (stripped flat.now))) }
+    ensures bytes { IfOk result (λ bytes. bytes ≡ bytes_of_words (spelling (stripped flat.now))) }
+    ensures reads_back { IfOk result (λ bytes. words_in bytes ≡ Ok (spelling (stripped flat.now))) }
 {
     let flat = strip_debug(alloc, flat)?;
     let words = encode(alloc, &flat)?;
@@ -58,7 +60,8 @@ fn write_module(alloc: Global, flat: &Flat) -> Result<ByteList, NoMemory>
 /// The bytes to be written for an input of at most 4,194,304 bytes, or why it is refused.
 pub fn answer(alloc: Global, bytes: &[u8]) -> Result<ByteList, Fault>
     requires { length bytes.now ≤ 4194304 }
-    ensures { Answers (answer_of bytes.now) result }
+    ensures answer { Answers (answer_of bytes.now) result }
+    ensures means { IfOk result (λ output. Means bytes.now output) }
 {
     let flat = read_module(alloc, bytes)?;
     Ok(write_module(alloc, &flat)?)
