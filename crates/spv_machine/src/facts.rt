@@ -150,8 +150,8 @@ pub fn facts_of_effects()
 pub fn facts_of_control()
     ensures swaps { alone_in swapping 7 ([] ∷ []) ≡ record { accesses = doubling_store (at_word 0) 1 ∷ []; end = Returned } }
     ensures swaps_in_seven { (alone_in swapping 6 ([] ∷ [])).end ≡ Runs }
-    ensures calls { alone_in calling 16 ([] ∷ []) ≡ record { accesses = doubling_store (at_word 0) 2 ∷ []; end = Returned } }
-    ensures calls_in_sixteen { (alone_in calling 15 ([] ∷ [])).end ≡ Runs }
+    ensures calls { alone_in calling 17 ([] ∷ [] ∷ []) ≡ record { accesses = doubling_store (at_word 0) 2 ∷ doubling_store (at_word 0) 1 ∷ []; end = Returned } }
+    ensures calls_in_seventeen { (alone_in calling 16 ([] ∷ [] ∷ [])).end ≡ Runs }
     ensures begins { (alone_in beginning 8 ([] ∷ [] ∷ [] ∷ [])).accesses ≡ doubling_store (at_word 0) 2 ∷ doubling_store (at_word 0) 0 ∷ doubling_store (at_word 0) 1 ∷ [] }
     ensures orders { alone_in ordering 5 ((7 ∷ []) ∷ [] ∷ [] ∷ [] ∷ []) ≡ record { accesses = record (atomic op.ATOMIC_I_ADD (at_word 0) (1 ∷ [])) { scopes = (1 ∷ []) ∷ []; semantics = (2 ∷ []) ∷ []; id = 10 } ∷ doubling_store (at_word 0) 7 ∷ order Fences op.MEMORY_BARRIER ((1 ∷ []) ∷ []) ((2 ∷ []) ∷ []) ∷ order Barriers op.CONTROL_BARRIER ((2 ∷ []) ∷ (1 ∷ []) ∷ []) ((2 ∷ []) ∷ []) ∷ []; end = Returned } }
     ensures sticks { alone_in unknown 1 [] ≡ ended Stuck }
