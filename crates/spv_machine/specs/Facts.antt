@@ -153,7 +153,7 @@ swapping =
     ∷ says.FunctionEnd
     ∷ []
 
--- a function that adds to its variable is called twice, and the second result is stored
+-- a function that adds to its variable is called twice, and the second result is stored, then the first
 abbrev pub calling : List Statement
 calling =
     says.Function 1
@@ -161,6 +161,7 @@ calling =
     ∷ says.FunctionCall 20 10 5 (31 ∷ [])
     ∷ says.FunctionCall 20 11 5 (32 ∷ [])
     ∷ says.Store 30 11 []
+    ∷ says.Store 30 10 []
     ∷ says.Return
     ∷ says.FunctionEnd
     ∷ says.Function 5

@@ -14,7 +14,7 @@ ghost use Rattle.spv_machine.specs.Places.{Buffer, Uniform, Push, Workgroup, Pri
 ghost use Rattle.spv_machine.specs.Dispatch.{Bound, Dispatch, IsDispatch};
 ghost use Rattle.spv_machine.specs.Constants.{table_of, type_at, words_at};
 ghost use Rattle.spv_machine.specs.Setting.{setting, array_lengths, size_for, builtin_words, workgroup_id, local_id};
-ghost use Rattle.spv_machine.specs.Effects.{Shared, after, answer};
+ghost use Rattle.spv_machine.specs.Effects.{Shared, after, answer, is_barrier};
 ghost use Rattle.spv_machine.specs.Steps.{first_state};
 ghost use Rattle.spv_machine.specs.Machine.{Fits, workgroup_size, Trace, Ends, Finals, setting_of, PrivateStep, Standing, Const, Cells, Spots};
 ghost use Rattle.spv_machine.specs.Laws.{KeepsWords, MeansSame};
@@ -106,7 +106,7 @@ pub fn facts_of_dispatches()
 
 /// A load changes nothing. Of words stored at one position the last stays. Each workgroup has its own Workgroup
 /// variables, which begin as zeros. An atomic answers the old word, and writes what its name says; at Nowhere it
-/// answers 0.
+/// answers 0. A barrier waits, and a fence does not.
 #[tactic(auto, unfolding(crate::specs::Effects::after, crate::specs::Effects::answer, spv_value::specs::Arith::i_add, spv_value::specs::Arith::i_sub, spv_value::specs::Numbers::wrapped, spv_value::specs::Numbers::signed, spv_value::specs::Ext::u_min, spv_value::specs::Ext::u_max, spv_value::specs::Ext::s_min, spv_value::specs::Ext::s_max, spv_value::specs::Bits::bitwise_and, spv_value::specs::Bits::bitwise_or, spv_value::specs::Bits::bitwise_xor, spv_value::specs::Bits::bits_of, spv_value::specs::Bits::number_of))]
 pub fn facts_of_effects()
     ensures load { (m : Shared) → after (loading (Buffer 0 0) 0) m ≡ m }
@@ -137,6 +137,9 @@ pub fn facts_of_effects()
     ensures atomic_load { after (atomic op.ATOMIC_LOAD (at_word 0) []) (holding (6 ∷ [])) ≡ holding (6 ∷ []) }
     ensures exchanges_equal { after (atomic op.ATOMIC_COMPARE_EXCHANGE (at_word 0) (5 ∷ 6 ∷ [])) (holding (6 ∷ [])) ≡ holding (5 ∷ []) }
     ensures keeps_unequal { after (atomic op.ATOMIC_COMPARE_EXCHANGE (at_word 0) (5 ∷ 7 ∷ [])) (holding (6 ∷ [])) ≡ holding (6 ∷ []) }
+    ensures fence { (m : Shared) → after (order Fences op.MEMORY_BARRIER [] []) m ≡ m }
+    ensures fence_waits_for_nobody { is_barrier (order Fences op.MEMORY_BARRIER [] []) ≡ false }
+    ensures barrier_waits { is_barrier (order Barriers op.CONTROL_BARRIER [] []) ≡ true }
     ensures nowhere { answer (atomic op.ATOMIC_I_ADD None (3 ∷ [])) (holding (6 ∷ [])) ≡ 0 ∷ [] }
     ensures changes_nothing_there { after (atomic op.ATOMIC_I_ADD None (3 ∷ [])) (holding (6 ∷ [])) ≡ holding (6 ∷ []) }
     ensures past { answer (atomic op.ATOMIC_I_ADD (at_word 1) (3 ∷ [])) (holding (6 ∷ [])) ≡ 0 ∷ [] }
@@ -150,8 +153,8 @@ pub fn facts_of_effects()
 pub fn facts_of_control()
     ensures swaps { alone_in swapping 7 ([] ∷ []) ≡ record { accesses = doubling_store (at_word 0) 1 ∷ []; end = Returned } }
     ensures swaps_in_seven { (alone_in swapping 6 ([] ∷ [])).end ≡ Runs }
-    ensures calls { alone_in calling 16 ([] ∷ []) ≡ record { accesses = doubling_store (at_word 0) 2 ∷ []; end = Returned } }
-    ensures calls_in_sixteen { (alone_in calling 15 ([] ∷ [])).end ≡ Runs }
+    ensures calls { alone_in calling 17 ([] ∷ [] ∷ []) ≡ record { accesses = doubling_store (at_word 0) 2 ∷ doubling_store (at_word 0) 1 ∷ []; end = Returned } }
+    ensures calls_in_seventeen { (alone_in calling 16 ([] ∷ [] ∷ [])).end ≡ Runs }
     ensures begins { (alone_in beginning 8 ([] ∷ [] ∷ [] ∷ [])).accesses ≡ doubling_store (at_word 0) 2 ∷ doubling_store (at_word 0) 0 ∷ doubling_store (at_word 0) 1 ∷ [] }
     ensures orders { alone_in ordering 5 ((7 ∷ []) ∷ [] ∷ [] ∷ [] ∷ []) ≡ record { accesses = record (atomic op.ATOMIC_I_ADD (at_word 0) (1 ∷ [])) { scopes = (1 ∷ []) ∷ []; semantics = (2 ∷ []) ∷ []; id = 10 } ∷ doubling_store (at_word 0) 7 ∷ order Fences op.MEMORY_BARRIER ((1 ∷ []) ∷ []) ((2 ∷ []) ∷ []) ∷ order Barriers op.CONTROL_BARRIER ((2 ∷ []) ∷ (1 ∷ []) ∷ []) ((2 ∷ []) ∷ []) ∷ []; end = Returned } }
     ensures sticks { alone_in unknown 1 [] ≡ ended Stuck }
