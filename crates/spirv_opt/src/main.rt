@@ -18,7 +18,11 @@ fn main(rt: HostRuntime) -> ExitCode {
             let mut host = Host::new(&rt, rt.stderr());
             opt(rt.alloc(), words.as_slice(), &mut host).number()
         }
-        Err(fault) => fault.number(),
+        Err(fault) => {
+            // Where the message cannot be written, the status says it alone.
+            let _ = eprintln!(rt; "error: {fault}");
+            fault.number()
+        }
     };
     ExitCode::from(number)
 }

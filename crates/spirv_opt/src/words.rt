@@ -7,11 +7,13 @@ use std::rt::Env;
 use std::{env, io};
 use thiserror::Error;
 
-/// Why the words of the command line could not be gathered.
+/// Why the words of the command line could not be gathered; displayed as its message to the user.
 #[derive(Clone, Copy, Debug, PartialEq, Eq, Error)]
 pub(crate) enum WordsFault {
-    #[error("a word of the command line is not UTF-8")]
+    /// A word is not UTF-8.
+    #[error("usage: NotYet")]
     NotText,
+    /// Memory was wanting.
     #[error("out of memory")]
     NoMemory,
 }
