@@ -17,3 +17,6 @@ pub use inst::Inst;
 pub use list::InstList;
 pub use spv_base::{ByteList, Fault, Header, Id, NoMemory, Refusal, Words};
 pub use view::View;
+
+#[cfg(test)]
+mod tests;
