@@ -51,7 +51,6 @@ of_roles bound words (Err rule) e h unbroken = h
 greatest-instruction : (bound : ℕ) (i : Instruction) → 0 < bound → instruction_rules bound i.words ≡ [] → greatest (words_with names_id i) < bound
 greatest-instruction bound i h unbroken = of_roles bound i.words (roles_of i.words) refl h unbroken
 
-
 greatest-named : (bound : ℕ) (insts : List Instruction) → 0 < bound → ByRecursion (λ i. instruction_rules bound i.words ≡ []) insts → greatest (named_ids insts) < bound
 greatest-named bound [] h each = h
 greatest-named bound (i ∷ insts) h each =
@@ -76,7 +75,7 @@ kept_or_gone : (b : Bool) (i : Instruction) (insts : List Instruction) → great
     greatest (named_ids (cond b (i ∷ stripped_insts insts) (stripped_insts insts))) ≤ greatest (named_ids (i ∷ insts))
 kept_or_gone true i insts h =
     rw (greatest-append (words_with names_id i) (named_ids (stripped_insts insts)), greatest-append (words_with names_id i) (named_ids insts))
-      (max_less (greatest (words_with names_id i)) (greatest (named_ids (stripped_insts insts))) (greatest (named_ids insts)) h)
+    (max_less (greatest (words_with names_id i)) (greatest (named_ids (stripped_insts insts))) (greatest (named_ids insts)) h)
 kept_or_gone false i insts h =
     rw (greatest-append (words_with names_id i) (named_ids insts)) (less_max (greatest (words_with names_id i)) (greatest (named_ids (stripped_insts insts))) (greatest (named_ids insts)) h)
 

@@ -15,7 +15,8 @@ stops_at_writing job bytes output old mid new reads short answer faults = record
   input = record {
     front = subst (λ (s : Seen). IfSome (old.holds job.input) (λ all. IsSomeAnd s.left (λ rest. bytes ++ rest ≡ all))) (sym faults.others) reads.front;
     most = reads.most;
-    whole = reads.whole };
+    whole = reads.whole;
+  };
   others = subst (λ (s : Seen). s ≡ record old { left = s.left; written = s.written; opened = s.opened; told = s.told; asked = s.asked; write_faults = s.write_faults; tell_faults = s.tell_faults })
       (sym (faults.others ∙ ap {A = Seen} (λ s. record s { written = new.written; opened = new.opened; asked = new.asked; write_faults = new.write_faults }) reads.others)) refl;
   short = short;

@@ -25,17 +25,30 @@ stops_told (Some job) (Refused refusal) old mid t f h = record { bytes = h.bytes
 stops_told (Some job) (Usage fault) old mid t f h = h
 stops_told (Some job) ReadFault old mid t f h = record { others = ap {A = Seen} (with_told t f) h.others; names = h.names; taken = h.taken; cause = h.cause }
 stops_told (Some job) WriteFault old mid t f h = record {
-  bytes = h.bytes; output = h.output; input = record { front = h.input.front; most = h.input.most; whole = h.input.whole };
-  others = ap {A = Seen} (with_told t f) h.others; short = h.short; answer = h.answer; names = h.names; opening = h.opening; front = h.front; cause = h.cause }
+  bytes = h.bytes;
+  output = h.output;
+  input = record { front = h.input.front; most = h.input.most; whole = h.input.whole };
+  others = ap {A = Seen} (with_told t f) h.others;
+  short = h.short;
+  answer = h.answer;
+  names = h.names;
+  opening = h.opening;
+  front = h.front;
+  cause = h.cause;
+}
 stops_told (Some job) (Limit number) old mid t f h = (h.0, record { bytes = h.1.bytes; input = record { front = h.1.input.front; most = h.1.input.most; whole = h.1.input.whole }; others = ap {A = Seen} (with_told t f) h.1.others; long = h.1.long })
 stops_told (Some job) NoMemory old mid t f h = record { others = ap {A = Seen} (with_told t f) h.others; taken = h.taken }
 
 told_since : (text : List ℕ) (old mid new : Seen) → mid.told ≡ old.told → mid.tell_faults ≡ old.tell_faults → Told text mid new → Told text old new
 told_since text old mid new e k (inl h) = inl (record { told = h.told ∙ ap (option_map (λ told. told ++ text)) e; tell_faults = h.tell_faults ∙ k })
 told_since text old mid new e k (inr h) = inr (record {
-  front = h.front; rest = h.rest; whole = h.whole; some = h.some;
+  front = h.front;
+  rest = h.rest;
+  whole = h.whole;
+  some = h.some;
   told = h.told ∙ ap (option_map (λ told. told ++ h.front)) e;
-  cause = subst (λ (n : ℕ). Rises n new.tell_faults) k h.cause })
+  cause = subst (λ (n : ℕ). Rises n new.tell_faults) k h.cause;
+})
 
 pub ends_told : (job : Option FileJob) (status : Status) (old mid new : Seen) → Stops job status old mid → mid.told ≡ old.told → mid.tell_faults ≡ old.tell_faults →
     new ≡ record mid { told = new.told; tell_faults = new.tell_faults } → Told (message_of status) mid new → Ends job status old new

@@ -9,7 +9,7 @@ use Rattle.spv_module.specs.Instruction.{Instruction, opcode}
 abbrev pub is_debug : Instruction → Bool
 is_debug i =
     list_any (λ o. opcode i == o)
-      (op.STRING ∷ op.SOURCE ∷ op.SOURCE_CONTINUED ∷ op.SOURCE_EXTENSION ∷ op.NAME ∷ op.MEMBER_NAME ∷ op.MODULE_PROCESSED ∷ [])
+    (op.STRING ∷ op.SOURCE ∷ op.SOURCE_CONTINUED ∷ op.SOURCE_EXTENSION ∷ op.NAME ∷ op.MEMBER_NAME ∷ op.MODULE_PROCESSED ∷ [])
 
 -- what stays: neither these nor line marks
 abbrev pub stays : Instruction → Bool

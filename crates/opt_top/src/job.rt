@@ -20,12 +20,7 @@ fn is_input_name(word: &str) -> bool
 }
 
 /// The job that four words give.
-fn four_words<'a>(
-    flag: &str,
-    input: &'a str,
-    mark: &str,
-    output: &'a str,
-) -> Option<FileJob<'a>>
+fn four_words<'a>(flag: &str, input: &'a str, mark: &str, output: &'a str) -> Option<FileJob<'a>>
     ensures { option_map seen result ≡ file_job flag.now input.now mark.now output.now }
 {
     if flag != "--strip-debug" {

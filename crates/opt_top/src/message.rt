@@ -1,7 +1,6 @@
 ghost use Rattle.std.specs.Prelude.{◌≡◌, ◌+◌, ◌++◌, ◌≤◌, OnOk, OnErr, codes, decimal, length};
 ghost use Rattle.opt_top.specs.Moves.{Tellings, FaultsTelling};
 ghost use Rattle.opt_top.specs.Status.{rule_text as text_of_rule, message_of, number_line, refusal_line};
-
 ghost use Rattle.opt_top.specs.Ends.{Told};
 
 use crate::status::Status;
@@ -77,7 +76,10 @@ fn try_tell<O: Outside>(status: &Status, out: &mut O) -> Result<(), Failed>
         Status::Usage(_) => tell_all(out, b"error: usage: NotYet\n"),
         Status::ReadFault => tell_all(out, b"error: read fault\n"),
         Status::WriteFault => tell_all(out, b"error: write fault\n"),
-        Status::Limit(number) => tell_all(out, numbered("error: limit ", *number).as_str().as_bytes()),
+        Status::Limit(number) => tell_all(
+            out,
+            numbered("error: limit ", *number).as_str().as_bytes(),
+        ),
         Status::NoMemory => tell_all(out, b"error: out of memory\n"),
     }
 }

@@ -9,5 +9,5 @@ use Rattle.opt_top.proofs.run.run.Goals as goal
 pub returns-clause-stops : goal.returns-clause-stops
 returns-clause-stops g c =
     subst (λ job. Stops job WriteFault (g.O.Outside.seen c.args.out.now) (g.O.Outside.seen c.write_output.new.out)) c.in-Some.ensures
-      (stops_at_writing (seen c.in-Some.job) c.in-Ok.bytes.items c.in-Ok-answer.output (g.O.Outside.seen c.args.out.now) (g.O.Outside.seen c.read_input.new.out) (g.O.Outside.seen c.write_output.new.out)
-        c.in-Ok.ensures.ok (search rules) (rw (← c.deref.ensures.value) c.in-Ok-answer.ensures.answer) (rw (← c.as_slice.ensures) c.in-Err.ensures.err))
+    (stops_at_writing (seen c.in-Some.job) c.in-Ok.bytes.items c.in-Ok-answer.output (g.O.Outside.seen c.args.out.now) (g.O.Outside.seen c.read_input.new.out) (g.O.Outside.seen c.write_output.new.out)
+    c.in-Ok.ensures.ok (search rules) (rw (← c.deref.ensures.value) c.in-Ok-answer.ensures.answer) (rw (← c.as_slice.ensures) c.in-Err.ensures.err))
