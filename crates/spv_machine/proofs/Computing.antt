@@ -1,13 +1,17 @@
 -- Runs that are computed: what a schedule leaves in the buffers.
-use Rattle.std.proofs.Common.{◌≡◌, ℕ, Bool, true, false, ◌&&◌, ◌||◌, ◌==◌, ◌⊎◌, inl, inr, List, [], ◌∷◌, Some, refl, sym, ap, ◌∙◌}
+use Rattle.std.proofs.Common.{◌≡◌, ℕ, Bool, true, false, ◌&&◌, ◌||◌, ◌==◌, ◌⊎◌, inl, inr, List, [], ◌∷◌, ◌++◌, Option, Some, None, refl, sym, ap, ◌∙◌}
 use Rattle.std.proofs.lemmas.Bool.{eqb-true, and_parts, or_cases}
-use Rattle.interleaving.specs.Machine.{first_world}
+use Rattle.interleaving.specs.Machine.{Answer, first_world}
+use Rattle.interleaving.specs.Trace as alone
 use Rattle.interleaving.proofs.Exploring as exploring
 use Rattle.spv_module.specs.Code.{Code}
+use Rattle.spv_machine.specs.Access.{Access}
 use Rattle.spv_machine.specs.Dispatch.{Bound, Dispatch}
 use Rattle.spv_machine.specs.Effects.{Shared, effects}
 use Rattle.spv_machine.specs.Steps.{program}
-use Rattle.spv_machine.specs.Machine.{setting_of, Ends, Finals}
+use Rattle.spv_machine.specs.Laws.{MeansSame}
+use Rattle.spv_machine.specs.Machine.{setting_of, Trace, Ends, Finals}
+use Rattle.spv_machine.specs.Places.{Place}
 
 abbrev pub same_words : List ℕ → List ℕ → Bool
 same_words [] [] = true
@@ -90,3 +94,24 @@ either_by m d n one other h others final =
       | inl e ↦ inl (same_buffers_is others one e)
       | inr e ↦ inr (same_buffers_is others other e)
     ]
+
+-- ---- traces that differ
+
+abbrev pub first_in : Option Place → List ℕ
+first_in None = []
+first_in (Some place) = place.first ∷ []
+
+-- of each access the first position of its place, and its operands
+abbrev pub told_words : List Access → List ℕ
+told_words [] = []
+told_words (a ∷ as') = (first_in a.place ++ a.operands) ++ told_words as'
+
+-- what one invocation's accesses tell under the same answers
+abbrev pub tells : Code → Dispatch → (i n : ℕ) → List Answer → (words : List ℕ) → Bool
+tells m d i n answers words = same_words (told_words (Trace m d i n answers).accesses) words
+
+-- two modules one of which tells these words, and the other does not, do not mean the same
+pub differ : (m m2 : Code) (d : Dispatch) (i n : ℕ) (answers : List Answer) (words : List ℕ) → tells m d i n answers words ≡ true → tells m2 d i n answers words ≡ false → MeansSame m m2 d → ⊥
+differ m m2 d i n answers words told untold same =
+    let e : true ≡ false = sym told ∙ ap {A = alone.Trace Access} (λ t. same_words (told_words t.accesses) words) (sym (same.trace i n answers)) ∙ untold in
+    absurd (cc e)

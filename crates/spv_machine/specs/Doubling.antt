@@ -74,6 +74,23 @@ volatile_load = code_of (take 127 doubling_words ++ (0x0005_003D ∷ 8 ∷ 20 �
 abbrev pub unsized : Code
 unsized = code_of (take 17 doubling_words ++ drop 23 doubling_words)
 
+-- What wrong passes would make of it: without its OpStore; with 3 for its constant 2; with its OpIMul and its OpStore swapped; and, of the two modules
+-- whose array begins behind a word or has each second one, without the Offset and without the ArrayStride.
+abbrev pub store_dropped : Code
+store_dropped = code_of (take 136 doubling_words ++ drop 139 doubling_words)
+
+abbrev pub constant_changed : Code
+constant_changed = code_of (slice_set doubling_words 96 3)
+
+abbrev pub body_swapped : Code
+body_swapped = code_of (take 131 doubling_words ++ take 3 (drop 136 doubling_words) ++ take 5 (drop 131 doubling_words) ++ drop 139 doubling_words)
+
+abbrev pub offset_dropped : Code
+offset_dropped = code_of (take 45 doubling_words ++ drop 50 doubling_words)
+
+abbrev pub stride_dropped : Code
+stride_dropped = code_of (take 50 doubling_words ++ drop 54 doubling_words)
+
 -- whose invocation i squares the two words of pair i; %22 is a vector of two words
 abbrev pub squaring : Code
 squaring = code_of (slice_set (

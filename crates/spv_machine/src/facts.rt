@@ -18,7 +18,7 @@ ghost use Rattle.spv_machine.specs.Effects.{Shared, after, answer, is_barrier};
 ghost use Rattle.spv_machine.specs.Steps.{first_state};
 ghost use Rattle.spv_machine.specs.Machine.{Fits, workgroup_size, Trace, Ends, Finals, setting_of, PrivateStep, Standing, Const, Cells, Spots};
 ghost use Rattle.spv_machine.specs.Laws.{KeepsWords, MeansSame};
-ghost use Rattle.spv_machine.specs.Doubling.{doubling, stripped, doubling_by_two, doubling_one_word, doubling_behind, doubling_apart, doubling_twice, volatile_variable, volatile_member, volatile_load, unsized, squaring, on, buffer};
+ghost use Rattle.spv_machine.specs.Doubling.{doubling, stripped, doubling_by_two, doubling_one_word, doubling_behind, doubling_apart, doubling_twice, volatile_variable, volatile_member, volatile_load, unsized, squaring, store_dropped, constant_changed, body_swapped, offset_dropped, stride_dropped, on, buffer};
 ghost use Rattle.spv_machine.specs.Facts.{one_by_one, volatilities, at_word, doubling_load, doubling_store, atomic, storing, loading, holding, group, uint, pairs_type, pairs, alone_in, swapping, calling, beginning, ordering, order, passing, unknown, specialising, sized_by_modes, sized_by_constant, reading, no_data, at_words};
 
 /// The doubling shader leaves the buffer 5, 6, 7 as 10, 12, 14, before and after its debug instructions are dropped,
@@ -39,6 +39,16 @@ pub fn facts_of_doubling()
     ensures stands_not_before { Standing doubling (on (5 ∷ [])) (first_state (setting_of doubling (on (5 ∷ []))) 0) ≡ None }
     ensures behind { Finals doubling_behind (on (5 ∷ 6 ∷ 7 ∷ [])) (buffer (5 ∷ 12 ∷ 14 ∷ [])) }
     ensures apart { Finals doubling_apart (on (5 ∷ 6 ∷ 7 ∷ 8 ∷ [])) (buffer (10 ∷ 6 ∷ 14 ∷ 8 ∷ [])) }
+{}
+
+/// What passes that are wrong would make of the doubling shader does not mean the same: a store dropped, a constant
+/// changed, two instructions of the body swapped, an Offset or an ArrayStride dropped.
+pub fn facts_of_wrong_passes()
+    ensures no_store { MeansSame doubling store_dropped (on (5 ∷ 6 ∷ 7 ∷ [])) → ⊥ }
+    ensures other_constant { MeansSame doubling constant_changed (on (5 ∷ 6 ∷ 7 ∷ [])) → ⊥ }
+    ensures swapped { MeansSame doubling body_swapped (on (5 ∷ 6 ∷ 7 ∷ [])) → ⊥ }
+    ensures no_offset { MeansSame doubling_behind offset_dropped (on (5 ∷ 6 ∷ 7 ∷ [])) → ⊥ }
+    ensures no_stride { MeansSame doubling_apart stride_dropped (on (5 ∷ 6 ∷ 7 ∷ 8 ∷ [])) → ⊥ }
 {}
 
 /// An index past the buffer leads to Nowhere, where a load answers 0 and a store changes nothing. Where a buffer ends
