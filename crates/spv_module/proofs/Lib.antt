@@ -9,3 +9,4 @@ pub mod Summary
 pub mod LayoutScan
 pub mod Sections
 pub mod Decoding
+pub mod Told

@@ -19,8 +19,9 @@ pub struct Inst {
 
 impl Inst {
     ghost use Rattle.std.specs.Prelude.{◌≡◌, ◌<◌, ◌^◌, [], length, slice_get, slice_index, Some, IfOk};
-    ghost use Rattle.std.specs.Option.{option_map};
+    ghost use Rattle.std.specs.Option.{is_some, option_map};
     ghost use Rattle.spv_grammar.specs.Operands.{count_of};
+    ghost use Rattle.spv_grammar.specs.Fronts.{has_result, has_result_type};
     ghost use Rattle.spv_grammar.specs.Roles.{is_defined_id, is_type_id, is_used_id};
     ghost use Rattle.spv_module.specs.Instruction.{opcode as opcode_in, word_with, operands as operands_in, operand_roles, instruction_rules};
     ghost use Rattle.spv_module.specs.View.{seen};
@@ -62,14 +63,16 @@ impl Inst {
 
     /// The id that the instruction defines. None exactly where its opcode defines none.
     pub fn result(&self) -> Option<Id>
-        ensures { result ≡ word_with is_defined_id (held self.now) }
+        ensures word { result ≡ word_with is_defined_id (held self.now) }
+        ensures has { is_some result ≡ has_result (opcode_in (held self.now)) }
     {
         self.view().result()
     }
 
     /// The id of the result's type. None exactly where the opcode has no result type.
     pub fn result_type(&self) -> Option<Id>
-        ensures { result ≡ word_with is_type_id (held self.now) }
+        ensures word { result ≡ word_with is_type_id (held self.now) }
+        ensures has { is_some result ≡ has_result_type (opcode_in (held self.now)) }
     {
         self.view().result_type()
     }

@@ -16,7 +16,8 @@ pub struct View<'a> {
 
 impl<'a> View<'a> {
     ghost use Rattle.std.specs.Prelude.{◌≡◌, ◌<◌, ◌≤◌, length, position, slice_get, slice_index, Some};
-    ghost use Rattle.std.specs.Option.{option_map};
+    ghost use Rattle.std.specs.Option.{is_some, option_map};
+    ghost use Rattle.spv_grammar.specs.Fronts.{has_result, has_result_type};
     ghost use Rattle.spv_grammar.specs.Roles.{is_defined_id, is_type_id, is_used_id};
     ghost use Rattle.spv_module.specs.Instruction.{opcode as opcode_in, word_with, front as front_of, operands as operands_in, operand_roles};
     ghost use Rattle.spv_module.specs.View.{seen};
@@ -51,7 +52,8 @@ impl<'a> View<'a> {
 
     /// The id that the instruction defines. None exactly where its opcode defines none.
     pub fn result(&self) -> Option<Id>
-        ensures { result ≡ word_with is_defined_id (seen self.now) }
+        ensures word { result ≡ word_with is_defined_id (seen self.now) }
+        ensures has { is_some result ≡ has_result (opcode_in (seen self.now)) }
     {
         let place = self.place_of_result()?;
         Id::new(self.words[place])
@@ -59,7 +61,8 @@ impl<'a> View<'a> {
 
     /// The id of the result's type. None exactly where the opcode has no result type.
     pub fn result_type(&self) -> Option<Id>
-        ensures { result ≡ word_with is_type_id (seen self.now) }
+        ensures word { result ≡ word_with is_type_id (seen self.now) }
+        ensures has { is_some result ≡ has_result_type (opcode_in (seen self.now)) }
     {
         let place = self.place_of_type()?;
         Id::new(self.words[place])
