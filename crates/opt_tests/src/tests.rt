@@ -1,5 +1,5 @@
 use opt_outside::{CallKind, Memory};
-use opt_top::{Status, opt};
+use opt_top::opt;
 use std::alloc::Global;
 use std::rc::RcStr;
 use std::test::Fail;
@@ -53,10 +53,11 @@ fn command(alloc: Global, words: &[&str]) -> Result<Vec<RcStr>, Fail> {
     Ok(texts)
 }
 
-/// Strips the file `in` of a memory to its output.
-fn strip(alloc: Global, memory: &mut Memory) -> Result<Status, Fail> {
+/// Strips the file `in` of a memory to its output, and says whether the run ends with this status and message.
+fn ends(alloc: Global, memory: &mut Memory, number: u8, message: &str) -> Result<bool, Fail> {
     let words = command(alloc, &["--strip-debug", "in", "-o", "out"])?;
-    Ok(opt(alloc, words.as_slice(), memory))
+    let status = opt(alloc, words.as_slice(), memory);
+    Ok(status.number() == number && memory.told() == message.as_bytes())
 }
 
 /// A memory that holds one file under the name `in`.
@@ -66,60 +67,122 @@ fn with_input(alloc: Global, chunk: u32, bytes: &[u8]) -> Result<Memory, Fail> {
     Ok(memory)
 }
 
+/// The bytes of the shader without its OpSource and its OpName.
+fn stripped(alloc: Global) -> Result<Vec<u8>, Fail> {
+    let mut bytes = encoded(alloc, &DOUBLING[..23], false)?;
+    let rest = encoded(alloc, &DOUBLING[30..], false)?;
+    bytes.extend_from_slice(rest.as_slice())?;
+    Ok(bytes)
+}
+
+/// Whether the shader is stripped, where its bytes are in this order and each call moves at most so many of them.
+fn is_stripped(alloc: Global, big: bool, chunk: u32) -> Result<bool, Fail> {
+    let shader = encoded(alloc, &DOUBLING, big)?;
+    let mut memory = with_input(alloc, chunk, shader.as_slice())?;
+    let is_done = ends(alloc, &mut memory, 0, "")?;
+    let output = stripped(alloc)?;
+    Ok(is_done && memory.opened() && memory.written() == output.as_slice() && output.len() == 536)
+}
+
+/// Whether a run over the shader, by 100 bytes a call, ends with this status and message where one call fails.
+fn ends_where_fails(
+    alloc: Global,
+    kind: CallKind,
+    nth: u32,
+    number: u8,
+    message: &str,
+) -> Result<bool, Fail> {
+    let shader = encoded(alloc, &DOUBLING, false)?;
+    let mut memory = with_input(alloc, 100, shader.as_slice())?;
+    memory.fail(kind, nth)?;
+    ends(alloc, &mut memory, number, message)
+}
+
+/// Whether the first bytes of words end with this message, with no output opened.
+fn is_refused(alloc: Global, words: &[u32], bytes: usize, message: &str) -> Result<bool, Fail> {
+    let mut input = encoded(alloc, words, false)?;
+    input.truncate(bytes);
+    let mut memory = with_input(alloc, 100, input.as_slice())?;
+    let told = ends(alloc, &mut memory, 1, message)?;
+    Ok(told && input.len() == bytes && !memory.opened())
+}
+
+/// Whether these words of a command are no job, and nothing is asked.
+fn is_no_job(alloc: Global, words: &[&str]) -> Result<bool, Fail> {
+    let mut memory = with_input(alloc, 100, b"")?;
+    let words = command(alloc, words)?;
+    let status = opt(alloc, words.as_slice(), &mut memory);
+    Ok(
+        status.number() == 2
+            && memory.told() == b"error: usage: NotYet\n".as_slice()
+            && memory.asked().is_empty(),
+    )
+}
+
+/// Whether so many zeros end with this status and message.
+fn zeros_end(alloc: Global, length: usize, number: u8, message: &str) -> Result<bool, Fail> {
+    let zeros = vec![in alloc; 0; length]?;
+    let mut memory = with_input(alloc, 65536, zeros.as_slice())?;
+    ends(alloc, &mut memory, number, message)
+}
+
 #[test]
 fn the_shader_is_stripped_in_pieces_of_each_size(rt: HostRuntime) -> Result<(), Fail> {
-    let mut stripped = encoded(rt.alloc(), &DOUBLING[..23], false)?;
-    stripped.extend_from_slice(encoded(rt.alloc(), &DOUBLING[30..], false)?.as_slice())?;
-    assert_eq!(rt; stripped.len(), 536);
-    for big in [false, true] {
-        let shader = encoded(rt.alloc(), &DOUBLING, big)?;
-        for chunk in [1, 3, 4, 1000] {
-            let mut memory = with_input(rt.alloc(), chunk, shader.as_slice())?;
-            let status = strip(rt.alloc(), &mut memory)?;
-            assert_eq!(rt; status, Status::Done, "by {chunk}");
-            assert_eq!(rt; memory.written(), stripped.as_slice(), "by {chunk}");
-            assert_eq!(rt; memory.told(), b"".as_slice());
-            assert!(rt; memory.opened());
-        }
+    for chunk in [1, 3, 4, 1000] {
+        assert!(rt; is_stripped(rt.alloc(), false, chunk)?, "by {chunk}");
+        assert!(rt;
+            is_stripped(rt.alloc(), true, chunk)?,
+            "by {chunk}, the greatest first"
+        );
     }
     Ok(())
 }
 
 #[test]
 fn each_call_that_fails_is_told(rt: HostRuntime) -> Result<(), Fail> {
-    let shader = encoded(rt.alloc(), &DOUBLING, false)?;
-    let reading = (Status::ReadFault, "error: read fault\n");
-    let writing = (Status::WriteFault, "error: write fault\n");
     // With 564 bytes to read and 536 to write by 100, and one call that finds the input's end.
-    for (kind, calls, fault) in [
-        (CallKind::OpenInput, 1, reading),
-        (CallKind::Read, 7, reading),
-        (CallKind::OpenOutput, 1, writing),
-        (CallKind::Write, 6, writing),
-    ] {
-        for nth in 1..9 {
-            let mut memory = with_input(rt.alloc(), 100, shader.as_slice())?;
-            memory.fail(kind, nth)?;
-            let status = strip(rt.alloc(), &mut memory)?;
-            let (expected, message) = if nth <= calls {
-                fault
-            } else {
-                (Status::Done, "")
-            };
-            assert_eq!(rt; status, expected, "call {nth} of {kind:?}");
-            assert_eq!(rt; memory.told(), message.as_bytes(), "call {nth} of {kind:?}");
-        }
+    for nth in 1..8 {
+        let told = ends_where_fails(rt.alloc(), CallKind::Read, nth, 3, "error: read fault\n")?;
+        assert!(rt; told, "read {nth}");
     }
-    let mut empty = Memory::new(rt.alloc(), 100);
-    assert_eq!(rt; strip(rt.alloc(), &mut empty)?, Status::ReadFault);
-    assert_eq!(rt; empty.told(), b"error: read fault\n".as_slice());
+    for nth in 1..7 {
+        let told = ends_where_fails(rt.alloc(), CallKind::Write, nth, 4, "error: write fault\n")?;
+        assert!(rt; told, "write {nth}");
+    }
+    Ok(())
+}
+
+#[test]
+fn an_opening_that_fails_is_told(rt: HostRuntime) -> Result<(), Fail> {
+    let alloc = rt.alloc();
+    assert!(rt; ends_where_fails(alloc, CallKind::OpenInput, 1, 3, "error: read fault\n")?);
+    assert!(rt; ends_where_fails(alloc, CallKind::OpenOutput, 1, 4, "error: write fault\n")?);
+    let mut empty = Memory::new(alloc, 100);
+    assert!(rt; ends(alloc, &mut empty, 3, "error: read fault\n")?);
+    Ok(())
+}
+
+#[test]
+fn a_call_that_is_never_made_cannot_fail(rt: HostRuntime) -> Result<(), Fail> {
+    for (kind, nth) in [
+        (CallKind::OpenInput, 2),
+        (CallKind::Read, 8),
+        (CallKind::OpenOutput, 2),
+        (CallKind::Write, 7),
+    ] {
+        assert!(rt;
+            ends_where_fails(rt.alloc(), kind, nth, 0, "")?,
+            "call {nth}"
+        );
+    }
     Ok(())
 }
 
 #[test]
 fn each_refusal_names_its_rule_and_place(rt: HostRuntime) -> Result<(), Fail> {
     let mut moved = DOUBLING;
-    moved[5..10].copy_from_slice(&[0x0003_000e, 0, 1, 0x0002_0011, 1]);
+    (moved[5], moved[6], moved[7]) = (0x0003_000e, 0, 1);
+    (moved[8], moved[9]) = (0x0002_0011, 1);
     let mut added = DOUBLING;
     added[131] = 0x0005_0080;
     for (words, bytes, message) in [
@@ -140,41 +203,24 @@ fn each_refusal_names_its_rule_and_place(rt: HostRuntime) -> Result<(), Fail> {
         (moved.as_slice(), 564, "error: 201 LayoutOrder at word 8\n"),
         (added.as_slice(), 564, "error: 190 NotYet at word 0\n"),
     ] {
-        let mut input = encoded(rt.alloc(), words, false)?;
-        input.truncate(bytes);
-        assert_eq!(rt; input.len(), bytes);
-        let mut memory = with_input(rt.alloc(), 100, input.as_slice())?;
-        let status = strip(rt.alloc(), &mut memory)?;
-        assert_eq!(rt; status.number(), 1, "{message}");
-        assert_eq!(rt; memory.told(), message.as_bytes(), "{message}");
-        assert!(rt; !memory.opened());
+        assert!(rt; is_refused(rt.alloc(), words, bytes, message)?, "{message}");
     }
     Ok(())
 }
 
 #[test]
-fn words_that_are_no_job_and_long_inputs_are_told(rt: HostRuntime) -> Result<(), Fail> {
-    for words in [
-        [].as_slice(),
-        &["-O", "in", "-o", "out"],
-        &["--strip-debug", "in", "-o"],
-    ] {
-        let mut memory = with_input(rt.alloc(), 100, b"")?;
-        let words = command(rt.alloc(), words)?;
-        let status = opt(rt.alloc(), words.as_slice(), &mut memory);
-        assert_eq!(rt; status.number(), 2);
-        assert_eq!(rt; memory.told(), b"error: usage: NotYet\n".as_slice());
-        assert_eq!(rt; memory.asked().len(), 0);
-    }
-    for (length, number, message) in [
-        (MOST_BYTES, 1, "error: 003 NotSpirv at word 0\n"),
-        (MOST_BYTES + 1, 5, "error: limit 900\n"),
-    ] {
-        let zeros = vec![in rt.alloc(); 0; length]?;
-        let mut memory = with_input(rt.alloc(), 65536, zeros.as_slice())?;
-        let status = strip(rt.alloc(), &mut memory)?;
-        assert_eq!(rt; status.number(), number, "{length} bytes");
-        assert_eq!(rt; memory.told(), message.as_bytes(), "{length} bytes");
-    }
+fn words_that_are_no_job_are_told(rt: HostRuntime) -> Result<(), Fail> {
+    let alloc = rt.alloc();
+    assert!(rt; is_no_job(alloc, &[])?);
+    assert!(rt; is_no_job(alloc, &["-O", "in", "-o", "out"])?);
+    assert!(rt; is_no_job(alloc, &["--strip-debug", "in", "-o"])?);
+    Ok(())
+}
+
+#[test]
+fn the_limit_is_told(rt: HostRuntime) -> Result<(), Fail> {
+    let alloc = rt.alloc();
+    assert!(rt; zeros_end(alloc, MOST_BYTES, 1, "error: 003 NotSpirv at word 0\n")?);
+    assert!(rt; zeros_end(alloc, MOST_BYTES + 1, 5, "error: limit 900\n")?);
     Ok(())
 }
