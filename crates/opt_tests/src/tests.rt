@@ -183,6 +183,8 @@ fn each_refusal_names_its_rule_and_place(rt: HostRuntime) -> Result<(), Fail> {
     let mut moved = DOUBLING;
     (moved[5], moved[6], moved[7]) = (0x0003_000e, 0, 1);
     (moved[8], moved[9]) = (0x0002_0011, 1);
+    let mut unknown = moved;
+    unknown[131] = 0x0005_ffff;
     let mut added = DOUBLING;
     added[131] = 0x0005_0080;
     for (words, bytes, message) in [
@@ -201,6 +203,11 @@ fn each_refusal_names_its_rule_and_place(rt: HostRuntime) -> Result<(), Fail> {
             "error: 205 FunctionShape at word 140\n",
         ),
         (moved.as_slice(), 564, "error: 201 LayoutOrder at word 8\n"),
+        (
+            unknown.as_slice(),
+            564,
+            "error: 106 UnknownOpcode at word 131\n",
+        ),
         (added.as_slice(), 564, "error: 190 NotYet at word 0\n"),
     ] {
         assert!(rt; is_refused(rt.alloc(), words, bytes, message)?, "{message}");
