@@ -1,5 +1,5 @@
 -- A run that read its input and has its answer, and could not write it, stopped as a fault of writing.
-use Rattle.std.proofs.Common.{◌≡◌, ℕ, ◌≤◌, ◌⊎◌, ◌++◌, List, length, Option, Ok, refl, sym, ap, subst, ◌∙◌}
+use Rattle.std.proofs.Common.{◌≡◌, ℕ, ◌<◌, ◌≤◌, ◌⊎◌, ◌++◌, List, length, Option, Ok, refl, sym, ap, subst, ◌∙◌}
 use Rattle.std.specs.Option.{option_map, IfSome, IsSomeAnd}
 use Rattle.opt_outside.specs.Seen.{Seen, Rises, MayAsk, MayOpen}
 use Rattle.opt_top.specs.Answer.{answer_of}
@@ -23,6 +23,6 @@ stops_at_writing job bytes output old mid new reads short answer faults = record
   answer = answer;
   names = subst (λ (s : Seen). MayAsk job.output s.asked new.asked) reads.others faults.names;
   opening = subst (λ (s : Seen). MayOpen s.opened new.opened) reads.others faults.opening;
-  front = subst (λ (s : Seen). (new.written ≡ s.written) ⊎ ((front : List ℕ) × (rest : List ℕ) × (front ++ rest ≡ output) × (new.written ≡ option_map (λ _. front) s.written))) reads.others faults.front;
+  front = subst (λ (s : Seen). (new.written ≡ s.written) ⊎ ((front : List ℕ) × (rest : List ℕ) × (front ++ rest ≡ output) × (0 < length rest) × (new.written ≡ option_map (λ _. front) s.written))) reads.others faults.front;
   cause = subst (λ (s : Seen). Rises s.write_faults new.write_faults) reads.others faults.cause;
 }

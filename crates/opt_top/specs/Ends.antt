@@ -49,7 +49,7 @@ pub record EndsRefused (job : FileJob) (refusal : Refusal) (old new : Seen) : Ty
   pub short : length bytes ≤ 4194304
   pub broken : answer_of bytes ≡ Err refusal
 
--- A fault of writing: the output was not opened, or a front of the bytes to be written was written.
+-- A fault of writing: the output was not opened, or a front of the bytes to be written was written and some are left.
 pub record EndsAtWriting (job : FileJob) (old new : Seen) : Type 0 where
   pub bytes : List ℕ
   pub output : List ℕ
@@ -67,7 +67,7 @@ pub record EndsAtWriting (job : FileJob) (old new : Seen) : Type 0 where
   pub answer : answer_of bytes ≡ Ok output
   pub names : MayAsk job.output (with_name job.input old.asked) new.asked
   pub opening : MayOpen old.opened new.opened
-  pub front : (new.written ≡ old.written) ⊎ ((front : List ℕ) × (rest : List ℕ) × (front ++ rest ≡ output) × (new.written ≡ option_map (λ _. front) old.written))
+  pub front : (new.written ≡ old.written) ⊎ ((front : List ℕ) × (rest : List ℕ) × (front ++ rest ≡ output) × (0 < length rest) × (new.written ≡ option_map (λ _. front) old.written))
   pub cause : Rises old.write_faults new.write_faults
 
 -- The whole output was written, and it means what the input means.

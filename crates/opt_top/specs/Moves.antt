@@ -30,10 +30,10 @@ IsAtEnd seen = IfSome seen.left (λ rest. rest ≡ [])
 pub record Adds (bytes : List ℕ) (old new : Seen) : Type 0 where
   pub others : new ≡ record old { written = option_map (λ written. written ++ bytes) old.written }
 
--- A fault of writing, behind the first bytes of a text: all before it was written.
+-- A fault of writing, behind the first bytes of a text, of which some are left: all before it was written.
 pub record FaultsWriting (bytes : List ℕ) (old new : Seen) : Type 0 where
   pub others : new ≡ record old { written = new.written; write_faults = new.write_faults }
-  pub front : (front : List ℕ) × (rest : List ℕ) × (front ++ rest ≡ bytes) × (new.written ≡ option_map (λ written. written ++ front) old.written)
+  pub front : (front : List ℕ) × (rest : List ℕ) × (front ++ rest ≡ bytes) × (0 < length rest) × (new.written ≡ option_map (λ written. written ++ front) old.written)
   pub cause : Rises old.write_faults new.write_faults
 
 -- The named input was opened, and these bytes were read of it: from its first one on, no more than one above the limit, and all of it where that is not
@@ -64,12 +64,12 @@ pub record FaultsInput (name : List ℕ) (old new : Seen) : Type 0 where
 pub record WritesOutput (name bytes : List ℕ) (old new : Seen) : Type 0 where
   pub others : new ≡ record old { written = option_map (λ _. bytes) old.written; opened = opened_now old.opened; asked = with_name name old.asked }
 
--- The named output was not opened, or a front of the bytes was written.
+-- The named output was not opened, or a front of the bytes was written and some are left.
 pub record FaultsOutput (name bytes : List ℕ) (old new : Seen) : Type 0 where
   pub others : new ≡ record old { written = new.written; opened = new.opened; asked = new.asked; write_faults = new.write_faults }
   pub names : MayAsk name old.asked new.asked
   pub opening : MayOpen old.opened new.opened
-  pub front : (new.written ≡ old.written) ⊎ ((front : List ℕ) × (rest : List ℕ) × (front ++ rest ≡ bytes) × (new.written ≡ option_map (λ _. front) old.written))
+  pub front : (new.written ≡ old.written) ⊎ ((front : List ℕ) × (rest : List ℕ) × (front ++ rest ≡ bytes) × (0 < length rest) × (new.written ≡ option_map (λ _. front) old.written))
   pub cause : Rises old.write_faults new.write_faults
 
 -- All of a text was told.
