@@ -6,7 +6,7 @@ use Rattle.spv_base.specs.declared.fault.Refusal.{Refusal}
 use Rattle.spv_form.specs.SingleBlock.{single_block}
 use Rattle.spv_machine.specs.Dispatch.{Dispatch}
 use Rattle.spv_machine.specs.Laws.{MeansSame}
-use Rattle.spv_machine.specs.Statements.{is_silent, words_of}
+use Rattle.spv_meaning.specs.Statements.{is_silent, words_of}
 use Rattle.spv_machine.proofs.Silence.{silence_law}
 use Rattle.spv_machine.proofs.Spelling.{spelled_again, cut_counted, filtered_counted}
 use Rattle.spv_module.specs.Code.{Code, code_of, cut, spelling}

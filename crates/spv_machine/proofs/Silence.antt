@@ -5,7 +5,7 @@ use Rattle.interleaving.specs.Machine as machine
 use Rattle.interleaving.specs.Trace as alone
 use Rattle.spv_module.specs.Code.{Code, code_of, spelling}
 use Rattle.spv_module.specs.Instruction.{Instruction, opcode}
-use Rattle.spv_machine.specs.Statements.{Statement, is_debug, is_debug_opcode, is_line_opcode, is_silent, said, statements_in, words_of}
+use Rattle.spv_meaning.specs.Statements.{Statement, is_debug, is_debug_opcode, is_line_opcode, is_silent, said, statements_in, words_of}
 use Rattle.spv_machine.specs.Dispatch.{Bound, Dispatch}
 use Rattle.spv_machine.specs.Setting.{setting, size_in, FitsStatements, invocations}
 use Rattle.spv_machine.specs.Effects.{Shared, effects}

@@ -9,7 +9,7 @@ use Rattle.spv_grammar.specs.Operands.{count_of}
 use Rattle.spv_module.specs.Instruction.{Instruction}
 use Rattle.spv_module.specs.Code.{Code, is_cut_short, cut, code_of, spelling}
 use Rattle.spv_module.proofs.Cutting.{cut-step}
-use Rattle.spv_machine.specs.Statements.{words_of}
+use Rattle.spv_meaning.specs.Statements.{words_of}
 
 -- an instruction's word count is the number of its words
 pub record IsCounted (words : List ℕ) : Type 0 where

@@ -1,11 +1,8 @@
 -- Dispatches: what is run, how often, and on what.
 use Rattle.std.specs.Prelude.{ℕ, ◌*◌, ◌/◌, ◌%◌, ◌^◌, ◌<◌, cond, ◌==◌, ◌&&◌, List, [], ◌∷◌, length, Option, Some, None}
 use Rattle.std.specs.List.{AllByRecursion}
+pub use Rattle.spv_meaning.specs.Constants.{Specialisation}
 use Rattle.spv_machine.specs.Places.{Triple, Memory, Buffer, Uniform, Push, Workgroup, Input, Private, Local}
-
--- words for constants by their SpecId; of two of one number the first counts
-abbrev pub Specialisation : Type 0
-Specialisation = List (ℕ × List ℕ)
 
 -- the words of the memory that is bound to a set and binding
 pub record Bound : Type 0 where

@@ -5,9 +5,9 @@ use Rattle.spv_opcodes.specs.declared.op.TheConstants as op
 use Rattle.spv_opcodes.specs.declared.decoration.TheConstants as decoration
 use Rattle.spv_opcodes.specs.declared.builtin.TheConstants as builtin
 use Rattle.spv_opcodes.specs.declared.storage_class.TheConstants as storage_class
-use Rattle.spv_machine.specs.Statements as says
-use Rattle.spv_machine.specs.Statements.{Statement}
-use Rattle.spv_machine.specs.Types.{DataType, Integer, Vector, RuntimeArray, Struct, NoMember, Member}
+use Rattle.spv_meaning.specs.Statements as says
+use Rattle.spv_meaning.specs.Statements.{Statement}
+use Rattle.spv_meaning.specs.Types.{DataType, Integer, Vector, RuntimeArray, Struct, NoMember, Member}
 use Rattle.spv_machine.specs.Places.{Triple, Memory, Buffer, Place, object_at}
 use Rattle.spv_machine.specs.Access.{Action, Loads, Stores, Atomics, Access}
 use Rattle.spv_machine.specs.Setting.{Setting, setting}
@@ -108,7 +108,7 @@ uint = Integer 32 false
 
 -- a member of one word, and an array of pairs behind it
 abbrev pub pairs_type : DataType
-pairs_type = Struct (Member 0 false uint (Member 1 false (RuntimeArray 2 (Vector 2 uint)) NoMember))
+pairs_type = Struct (Member (Some 0) false uint (Member (Some 4) false (RuntimeArray (Some 8) (Vector 2 uint)) NoMember))
 
 abbrev pub pairs : Option Place
 pairs = Some (object_at storage_class.STORAGE_BUFFER (Buffer 0 0) 0 pairs_type)
@@ -243,23 +243,6 @@ passing =
 -- a block whose only other instruction says nothing that a machine can do
 abbrev pub unknown : List Statement
 unknown = says.Function 1 ∷ says.Label 2 ∷ says.Unknown ∷ says.Return ∷ says.FunctionEnd ∷ []
-
--- ---- constants
-
--- an integer and a boolean with the SpecIds 7 and 8, an array as long as the integer, and one of length -1
-abbrev pub specialising : List Statement
-specialising =
-    says.Decorate 25 decoration.SPEC_ID (7 ∷ [])
-    ∷ says.Decorate 27 decoration.SPEC_ID (8 ∷ [])
-    ∷ says.TypeInt 20 32 0
-    ∷ says.TypeBool 21
-    ∷ says.SpecConstant 20 25 (4 ∷ [])
-    ∷ says.TypeArray 26 20 25
-    ∷ says.SpecConstant 21 27 (1 ∷ [])
-    ∷ says.TypeInt 28 32 1
-    ∷ says.Constant 28 29 (0xFFFF_FFFF ∷ [])
-    ∷ says.TypeArray 30 20 29
-    ∷ []
 
 -- ---- dispatches
 

@@ -5,7 +5,7 @@ use Rattle.interleaving.specs.Keeps as alone
 use Rattle.spv_base.specs.declared.header.Header.{Header}
 use Rattle.spv_module.specs.Code.{Code, code_of, spelling}
 use Rattle.spv_module.specs.Instruction.{Instruction}
-use Rattle.spv_machine.specs.Statements.{is_debug, is_silent, words_of}
+use Rattle.spv_meaning.specs.Statements.{is_debug, is_silent, words_of}
 use Rattle.spv_machine.specs.Access.{Access, IsPlainLoad}
 use Rattle.spv_machine.specs.Dispatch.{Bound, Dispatch, Specialisation, specialised}
 use Rattle.spv_machine.specs.Alike.{Renaming, IsOneToOne, SameAccess}

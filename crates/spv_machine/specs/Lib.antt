@@ -1,9 +1,6 @@
-pub mod Statements
-pub mod Types
 pub mod Places
 pub mod Access
 pub mod Dispatch
-pub mod Constants
 pub mod Setting
 pub mod Effects
 pub mod State

@@ -5,20 +5,14 @@ use Rattle.interleaving.specs.Machine.{Move, HasReturned, IsStuck, Goes, Stands,
 use Rattle.interleaving.specs.Trace as alone
 use Rattle.interleaving.specs.Trace.{Traces}
 use Rattle.spv_module.specs.Code.{Code}
-use Rattle.spv_machine.specs.Statements.{Statement, words_of, statements_in}
-use Rattle.spv_machine.specs.Types.{DataType, cells, spots}
-use Rattle.spv_machine.specs.Places.{Triple, is_laid}
+pub use Rattle.spv_meaning.specs.Meanings.{statements, Const, Cells, Spots, type_of}
+use Rattle.spv_machine.specs.Places.{Triple}
 use Rattle.spv_machine.specs.Access.{Access}
-use Rattle.spv_machine.specs.Dispatch.{Bound, Dispatch, Specialisation}
-use Rattle.spv_machine.specs.Constants.{Meaning, IsConstant, meaning, type_at, table_of}
+use Rattle.spv_machine.specs.Dispatch.{Bound, Dispatch}
 use Rattle.spv_machine.specs.Setting.{Setting, setting, size_in, FitsStatements, invocations}
 use Rattle.spv_machine.specs.Effects.{Shared, effects}
 use Rattle.spv_machine.specs.State.{State}
 use Rattle.spv_machine.specs.Steps.{look, first_state, program}
-
--- what the instructions of a module say; where they stand in the file does not matter
-abbrev pub statements : Code → List Statement
-statements m = statements_in (words_of m.insts)
 
 -- the module under a dispatch
 abbrev pub setting_of : Code → Dispatch → Setting
@@ -67,24 +61,3 @@ standing move = None
 -- the access before which a state stands
 abbrev pub Standing : Code → Dispatch → State → Option Access
 Standing m d s = standing (look (setting_of m d) s)
-
--- ---- types and constants
-
-abbrev pub constant_words : Option Meaning → Option (List ℕ)
-constant_words (Some (IsConstant t words)) = Some words
-constant_words m = None
-
--- the words of a constant under a specialisation
-abbrev pub Const : Code → Specialisation → ℕ → Option (List ℕ)
-Const m s id = constant_words (meaning (table_of (statements m) s) id)
-
-abbrev pub type_of : Code → Specialisation → ℕ → DataType
-type_of m s id = type_at (table_of (statements m) s) id
-
--- how many words a value of a type has
-abbrev pub Cells : Code → Specialisation → ℕ → ℕ
-Cells m s id = cells (type_of m s id)
-
--- their positions in a storage class
-abbrev pub Spots : Code → Specialisation → ℕ → (class : ℕ) → List ℕ
-Spots m s id class = spots (is_laid class) (type_of m s id)

@@ -3,13 +3,13 @@ use Rattle.std.specs.Prelude.{ℕ, ◌%◌, Bool, false, cond, ◌==◌, ◌||�
 use Rattle.spv_opcodes.specs.declared.op.TheConstants as op
 use Rattle.spv_value.specs.Eval.{Eval}
 use Rattle.interleaving.specs.Machine.{Answer}
-use Rattle.spv_machine.specs.Statements as says
-use Rattle.spv_machine.specs.Statements.{Statement}
-use Rattle.spv_machine.specs.Types.{DataType, cells, booleans, fitted}
+use Rattle.spv_meaning.specs.Statements as says
+use Rattle.spv_meaning.specs.Statements.{Statement}
+use Rattle.spv_meaning.specs.Types.{DataType, cells, booleans, fitted}
 use Rattle.spv_machine.specs.Places.{Place, Local, is_shared, locate, passes_volatile}
 use Rattle.spv_machine.specs.Access.{Action, Loads, Stores, Atomics, Fences, Barriers, Access}
 use Rattle.spv_machine.specs.Dispatch.{size_of}
-use Rattle.spv_machine.specs.Constants.{type_at, pointer_at, initial}
+use Rattle.spv_meaning.specs.Constants.{type_at, pointer_at, initial}
 use Rattle.spv_machine.specs.Setting.{Setting}
 use Rattle.spv_machine.specs.State.{Pointer, Value, Words, Points, Data, on_top, bind, depth_of, with_variable, whole, value, word_lists, words_of_value, pointer_of_value, read_held, write_held}
 

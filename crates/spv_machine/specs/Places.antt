@@ -2,7 +2,9 @@
 use Rattle.std.specs.Prelude.{ℕ, zero, suc, ◌+◌, ◌-◌, ◌*◌, ◌/◌, Bool, true, false, cond, ◌==◌, ◌&&◌, ◌||◌, nat_lt, List, [], ◌∷◌, Option, Some, None}
 use Rattle.std.specs.List.{list_all}
 use Rattle.spv_opcodes.specs.declared.storage_class.TheConstants as storage_class
-use Rattle.spv_machine.specs.Types.{DataType, Void, Boolean, Integer, Vector, Array, RuntimeArray, Struct, Members, NoMember, Member, cells, spots, moved_by, number_in, not_negative}
+pub use Rattle.spv_meaning.specs.Meanings.{is_laid}
+pub use Rattle.spv_meaning.specs.Parts.{Part, part, and_then}
+use Rattle.spv_meaning.specs.Types.{DataType, Void, Boolean, Integer, Vector, Array, RuntimeArray, Struct, Members, NoMember, Member, in_words, cells, spots, moved_by, number_in, not_negative}
 
 -- a number for each of three dimensions
 pub record Triple : Type 0 where
@@ -34,10 +36,6 @@ pub record Place : Type 0 where
 abbrev pub is_shared : (class : ℕ) → Bool
 is_shared class = class == storage_class.STORAGE_BUFFER || class == storage_class.WORKGROUP
 
--- a storage class in which offsets and strides tell the positions
-abbrev pub is_laid : (class : ℕ) → Bool
-is_laid class = class == storage_class.STORAGE_BUFFER || class == storage_class.UNIFORM || class == storage_class.PUSH_CONSTANT
-
 -- an object of a type from a position on
 abbrev pub object_at : (class : ℕ) → Memory → (first : ℕ) → DataType → Place
 object_at class memory first t = record { memory = memory; first = first; positions = moved_by first (spots (is_laid class) t) }
@@ -47,43 +45,10 @@ abbrev pub is_within : (size : Option ℕ) → List ℕ → Bool
 is_within None positions = true
 is_within (Some n) positions = list_all (λ x. nat_lt x n) positions
 
--- how many elements a runtime array has that begins at a position
-abbrev pub room : (size : Option ℕ) (first stride : ℕ) → ℕ
-room None first stride = 0
-room (Some n) first stride = (n - first) / stride
-
--- a part: its first position and its type
-pub record Part : Type 0 where
-  pub first : ℕ
-  pub type : DataType
-
--- an element of n, each so far behind the one before
-abbrev pub element : (n stride : ℕ) → DataType → (first index : ℕ) → Option Part
-element n stride t first index = cond (nat_lt index n) (Some (record { first = first + index * stride; type = t })) None
-
-abbrev pub member : (laid : Bool) (packed : ℕ) → Members → (first index : ℕ) → Option Part
-member laid packed NoMember first index = None
-member laid packed (Member offset volatile t rest) first zero = Some (record { first = first + cond laid offset packed; type = t })
-member laid packed (Member offset volatile t rest) first (suc index) = member laid (packed + cells t) rest first index
-
--- the part of an object at an index, where the object begins at a position of a memory of this size
-abbrev pub part : (laid : Bool) (size : Option ℕ) → DataType → (first index : ℕ) → Option Part
-part laid size Void first index = None
-part laid size Boolean first index = None
-part laid size (Integer width signed) first index = None
-part laid size (Vector count t) first index = element count (cells t) t first index
-part laid size (Array stride count t) first index = element count (cond laid stride (cells t)) t first index
-part laid size (RuntimeArray stride t) first index = element (room size first stride) stride t first index
-part laid size (Struct members) first index = member laid 0 members first index
-
 -- an index is read as signed: a negative one is outside
 abbrev pub part_at : (laid : Bool) (size : Option ℕ) → DataType → (first : ℕ) (index : Option ℕ) → Option Part
 part_at laid size t first None = None
 part_at laid size t first (Some index) = part laid size t first index
-
-abbrev pub and_then : {X Y : Type 0} → Option X → (X → Option Y) → Option Y
-and_then None f = None
-and_then (Some x) f = f x
 
 -- the part that indexes lead to, each the words of an integer
 abbrev pub parts_along : (laid : Bool) (size : Option ℕ) → (indexes : List (List ℕ)) → Part → Option Part

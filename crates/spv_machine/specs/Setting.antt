@@ -5,11 +5,11 @@ use Rattle.std.specs.Option.{unwrap_or}
 use Rattle.std.specs.Cmp.Lexicographic.{pointwise}
 use Rattle.spv_opcodes.specs.declared.decoration.TheConstants as decoration
 use Rattle.spv_opcodes.specs.declared.builtin.TheConstants as builtin
-use Rattle.spv_machine.specs.Statements as says
-use Rattle.spv_machine.specs.Statements.{Statement}
+use Rattle.spv_meaning.specs.Statements as says
+use Rattle.spv_meaning.specs.Statements.{Statement}
 use Rattle.spv_machine.specs.Places.{Triple}
 use Rattle.spv_machine.specs.Dispatch.{Dispatch, volume, triple_at, words_of_triple}
-use Rattle.spv_machine.specs.Constants.{Table, table_of, words_at, length_at}
+use Rattle.spv_meaning.specs.Constants.{Table, table_of, words_at, length_at}
 
 -- the function of the entry point with a name; of two of one name the first counts
 abbrev pub entry_function : List Statement → (name : List ℕ) → Option ℕ

@@ -4,10 +4,10 @@ use Rattle.std.specs.Map.{lookup}
 use Rattle.std.specs.Option.{unwrap_or}
 use Rattle.spv_opcodes.specs.declared.decoration.TheConstants as decoration
 use Rattle.spv_opcodes.specs.declared.storage_class.TheConstants as storage_class
-use Rattle.spv_machine.specs.Statements.{Statement}
-use Rattle.spv_machine.specs.Types.{DataType}
+use Rattle.spv_meaning.specs.Statements.{Statement}
+use Rattle.spv_meaning.specs.Types.{DataType}
 use Rattle.spv_machine.specs.Places.{Triple, Memory, Buffer, Uniform, Push, Workgroup, Input, Private, Local, Place, object_at, is_within}
-use Rattle.spv_machine.specs.Constants.{Meaning, IsConstant, IsVariable, meaning, decorated, literal}
+use Rattle.spv_meaning.specs.Constants.{Meaning, IsConstant, IsVariable, meaning, decorated, literal}
 use Rattle.spv_machine.specs.Dispatch.{size_of, words_bound}
 use Rattle.spv_machine.specs.Setting.{Setting, builtin_words}
 

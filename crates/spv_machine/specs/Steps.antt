@@ -2,11 +2,11 @@
 use Rattle.std.specs.Prelude.{ℕ, cond, ◌==◌, List, [], ◌∷◌, ◌++◌, Option, Some, None}
 use Rattle.spv_opcodes.specs.declared.storage_class.TheConstants as storage_class
 use Rattle.interleaving.specs.Machine.{Move, HasReturned, IsStuck, Goes, Stands, Program}
-use Rattle.spv_machine.specs.Statements as says
-use Rattle.spv_machine.specs.Statements.{Statement}
-use Rattle.spv_machine.specs.Types.{number_in}
+use Rattle.spv_meaning.specs.Statements as says
+use Rattle.spv_meaning.specs.Statements.{Statement}
+use Rattle.spv_meaning.specs.Types.{number_in}
 use Rattle.spv_machine.specs.Access.{Access}
-use Rattle.spv_machine.specs.Constants.{Table, Meaning, IsVariable}
+use Rattle.spv_meaning.specs.Constants.{Table, Meaning, IsVariable}
 use Rattle.spv_machine.specs.Setting.{Setting, workgroup_id, local_id}
 use Rattle.spv_machine.specs.State.{Value, Words, Points, Data, Caller, State, At, Over, below, bind, bind_all, is_volatile_id, value, values, words_of_value}
 use Rattle.spv_machine.specs.Operations.{Outcome, Does, Wants, Fails, outcome}

@@ -6,13 +6,13 @@ ghost use Rattle.spv_opcodes.specs.declared.op.TheConstants as op;
 ghost use Rattle.spv_opcodes.specs.declared.builtin.TheConstants as builtin;
 ghost use Rattle.spv_opcodes.specs.declared.storage_class.TheConstants as storage_class;
 ghost use Rattle.spv_value.specs.Arith.{i_mul};
-ghost use Rattle.spv_machine.specs.Statements.{LocalSize, is_debug};
+ghost use Rattle.spv_meaning.specs.Statements.{LocalSize, is_debug};
 ghost use Rattle.spv_machine.specs.Access.{Fences, Barriers};
 ghost use Rattle.spv_machine.specs.State.{read_held};
-ghost use Rattle.spv_machine.specs.Types.{Array, RuntimeArray, Vector, Struct, Member, NoMember, cells, spots};
+ghost use Rattle.spv_meaning.specs.Types.{Array, RuntimeArray, Vector, Struct, Member, NoMember, cells, spots};
 ghost use Rattle.spv_machine.specs.Places.{Buffer, Uniform, Push, Workgroup, Private, object_at, locate, and_then};
 ghost use Rattle.spv_machine.specs.Dispatch.{Bound, Dispatch, IsDispatch};
-ghost use Rattle.spv_machine.specs.Constants.{table_of, type_at, words_at};
+ghost use Rattle.spv_meaning.specs.Constants.{table_of, type_at, words_at};
 ghost use Rattle.spv_machine.specs.Setting.{setting, array_lengths, size_for, builtin_words, workgroup_id, local_id};
 ghost use Rattle.spv_machine.specs.Effects.{Shared, after, answer, is_barrier};
 ghost use Rattle.spv_machine.specs.Steps.{first_state};
@@ -25,7 +25,7 @@ ghost use Rattle.spv_machine.specs.Facts.{one_by_one, volatilities, at_word, dou
 /// though most of its 64 invocations are past the end. Each takes seven steps. It loads and stores at its own word; an
 /// answer is read modulo 2^32, a missing word is 0, and further words do not count. Three private steps lead before the
 /// load. An array may begin behind a member, and its elements may lie apart.
-#[tactic(auto, unfolding(spv_module::specs::Code::cut, spv_words::specs::Words::bytes_of_words, crate::specs::Statements::statements_in, crate::specs::Setting::setting, crate::specs::Places::locate, crate::specs::Operations::outcome, crate::specs::Steps::look, crate::specs::Steps::first_state, crate::specs::Machine::Trace, spv_value::specs::Eval::Eval, spv_value::specs::Eval::op_rules, spv_value::specs::Arith::i_mul, spv_value::specs::Numbers::wrapped))]
+#[tactic(auto, unfolding(spv_module::specs::Code::cut, spv_words::specs::Words::bytes_of_words, spv_meaning::specs::Statements::statements_in, crate::specs::Setting::setting, crate::specs::Places::locate, crate::specs::Operations::outcome, crate::specs::Steps::look, crate::specs::Steps::first_state, crate::specs::Machine::Trace, spv_value::specs::Eval::Eval, spv_value::specs::Eval::op_rules, spv_value::specs::Arith::i_mul, spv_value::specs::Numbers::wrapped))]
 pub fn facts_of_doubling()
     ensures doubles { Finals doubling (on (5 ∷ 6 ∷ 7 ∷ [])) (buffer (10 ∷ 12 ∷ 14 ∷ [])) }
     ensures strips { KeepsWords (λ i. not (is_debug i)) doubling stripped }
@@ -55,7 +55,7 @@ pub fn facts_of_wrong_passes()
 /// inside an element, the element is outside, and so is an index past the array's length. A negative index is outside.
 /// A chain that ends at an array has no words and is never past the end; one that ends at an object that passes the end
 /// is Nowhere. A whole read or write that passes the end of its memory is one at Nowhere.
-#[tactic(auto, unfolding(spv_module::specs::Code::cut, spv_words::specs::Words::bytes_of_words, crate::specs::Statements::statements_in, crate::specs::Setting::setting, crate::specs::Places::locate, crate::specs::Operations::outcome, crate::specs::Steps::look, crate::specs::Steps::first_state, crate::specs::Machine::Trace, spv_value::specs::Eval::Eval, spv_value::specs::Eval::op_rules, spv_value::specs::Arith::i_mul, spv_value::specs::Numbers::wrapped, crate::specs::Effects::after, crate::specs::Effects::answer))]
+#[tactic(auto, unfolding(spv_module::specs::Code::cut, spv_words::specs::Words::bytes_of_words, spv_meaning::specs::Statements::statements_in, crate::specs::Setting::setting, crate::specs::Places::locate, crate::specs::Operations::outcome, crate::specs::Steps::look, crate::specs::Steps::first_state, crate::specs::Machine::Trace, spv_value::specs::Eval::Eval, spv_value::specs::Eval::op_rules, spv_value::specs::Arith::i_mul, spv_value::specs::Numbers::wrapped, crate::specs::Effects::after, crate::specs::Effects::answer))]
 pub fn facts_of_places()
     ensures past { Trace doubling (on (5 ∷ 6 ∷ 7 ∷ [])) 3 7 ((9 ∷ []) ∷ [] ∷ []) ≡ record { accesses = doubling_load None ∷ doubling_store None 18 ∷ []; end = Returned } }
     ensures reads_zero { (m : Shared) → answer (doubling_load None) m ≡ 0 ∷ [] }
@@ -64,10 +64,10 @@ pub fn facts_of_places()
     ensures element { locate storage_class.STORAGE_BUFFER (Some 6) pairs_type pairs ((1 ∷ []) ∷ (1 ∷ []) ∷ []) ≡ Some (record { memory = Buffer 0 0; first = 3; positions = 3 ∷ 4 ∷ [] }) }
     ensures component { locate storage_class.STORAGE_BUFFER (Some 6) pairs_type pairs ((1 ∷ []) ∷ (1 ∷ []) ∷ (1 ∷ []) ∷ []) ≡ at_word 4 }
     ensures no_element { locate storage_class.STORAGE_BUFFER (Some 6) pairs_type pairs ((1 ∷ []) ∷ (2 ∷ []) ∷ []) ≡ None }
-    ensures padding { locate storage_class.STORAGE_BUFFER (Some 6) (RuntimeArray 4 (Vector 2 uint)) (at_words (Buffer 0 0) []) ((1 ∷ []) ∷ []) ≡ None }
-    ensures counted_from_first { locate storage_class.STORAGE_BUFFER (Some 4) (Struct (Member 1 false (RuntimeArray 4 uint) NoMember)) (at_words (Buffer 0 0) []) ((0 ∷ []) ∷ (0 ∷ []) ∷ []) ≡ None }
-    ensures not_negative { locate storage_class.PRIVATE None (Array 1 0xFFFF_FFFF uint) (at_words (Private 4) []) ((0x7FFF_FFFF ∷ []) ∷ []) ≡ Some (record { memory = Private 4; first = 0x7FFF_FFFF; positions = 0x7FFF_FFFF ∷ [] }) }
-    ensures negative { locate storage_class.PRIVATE None (Array 1 0xFFFF_FFFF uint) (at_words (Private 4) []) ((0x8000_0000 ∷ []) ∷ []) ≡ None }
+    ensures padding { locate storage_class.STORAGE_BUFFER (Some 6) (RuntimeArray (Some 16) (Vector 2 uint)) (at_words (Buffer 0 0) []) ((1 ∷ []) ∷ []) ≡ None }
+    ensures counted_from_first { locate storage_class.STORAGE_BUFFER (Some 4) (Struct (Member (Some 4) false (RuntimeArray (Some 16) uint) NoMember)) (at_words (Buffer 0 0) []) ((0 ∷ []) ∷ (0 ∷ []) ∷ []) ≡ None }
+    ensures not_negative { locate storage_class.PRIVATE None (Array (Some 4) 0xFFFF_FFFF uint) (at_words (Private 4) []) ((0x7FFF_FFFF ∷ []) ∷ []) ≡ Some (record { memory = Private 4; first = 0x7FFF_FFFF; positions = 0x7FFF_FFFF ∷ [] }) }
+    ensures negative { locate storage_class.PRIVATE None (Array (Some 4) 0xFFFF_FFFF uint) (at_words (Private 4) []) ((0x8000_0000 ∷ []) ∷ []) ≡ None }
     ensures no_member { locate storage_class.STORAGE_BUFFER (Some 6) pairs_type pairs ((2 ∷ []) ∷ []) ≡ None }
     ensures from_nowhere { locate storage_class.STORAGE_BUFFER (Some 6) pairs_type None ((0 ∷ []) ∷ []) ≡ None }
     ensures whole_array { locate storage_class.STORAGE_BUFFER (Some 0) pairs_type pairs ((1 ∷ []) ∷ []) ≡ Some (record { memory = Buffer 0 0; first = 1; positions = [] }) }
@@ -94,7 +94,7 @@ pub fn facts_of_two_invocations()
 /// A dispatch has words of 32 bits. It fits where its entry point is there and has a workgroup size, and each array has
 /// a length. Of two entry points of one name the first counts. A constant that is the workgroup size comes before a
 /// LocalSizeId, and that before a LocalSize. Invocations are counted along x, then y, then z.
-#[tactic(auto, unfolding(spv_module::specs::Code::cut, spv_words::specs::Words::bytes_of_words, crate::specs::Statements::statements_in, crate::specs::Setting::setting, crate::specs::Machine::workgroup_size))]
+#[tactic(auto, unfolding(spv_module::specs::Code::cut, spv_words::specs::Words::bytes_of_words, spv_meaning::specs::Statements::statements_in, crate::specs::Setting::setting, crate::specs::Machine::workgroup_size))]
 pub fn facts_of_dispatches()
     ensures in_range { IsDispatch (on (5 ∷ 0xFFFF_FFFF ∷ [])) }
     ensures out_of_range { IsDispatch (on (0x1_0000_0000 ∷ [])) → ⊥ }
@@ -171,36 +171,9 @@ pub fn facts_of_control()
     ensures no_function { alone_in [] 1 [] ≡ ended Stuck }
 {}
 
-/// A constant has words, and a type a number of words, which lie as strides and offsets say, or packed. A
-/// specialisation gives words to the constants that it names, and no others; of two for one number the first counts; a
-/// missing word is 0, and a boolean is 1 where the word is not 0. An array may be as long as such a constant; one of a
-/// negative length has no words.
-#[tactic(auto, unfolding(crate::specs::Statements::statements_in, spv_module::specs::Code::cut, spv_words::specs::Words::bytes_of_words))]
-pub fn facts_of_constants()
-    ensures constant { Const doubling [] 15 ≡ Some (2 ∷ []) }
-    ensures no_constant { Const doubling [] 4 ≡ None }
-    ensures vector { Cells doubling [] 9 ≡ 3 }
-    ensures open_array { Cells doubling [] 4 ≡ 0 }
-    ensures packed { Spots doubling [] 9 storage_class.INPUT ≡ 0 ∷ 1 ∷ 2 ∷ [] }
-    ensures laid { spots true (Array 4 2 (Vector 2 uint)) ≡ 0 ∷ 1 ∷ 4 ∷ 5 ∷ [] }
-    ensures not_laid { spots false (Array 4 2 (Vector 2 uint)) ≡ 0 ∷ 1 ∷ 2 ∷ 3 ∷ [] }
-    ensures laid_members { spots true (Struct (Member 0 false uint (Member 2 false uint NoMember))) ≡ 0 ∷ 2 ∷ [] }
-    ensures packed_members { spots false (Struct (Member 0 false uint (Member 2 false uint NoMember))) ≡ 0 ∷ 1 ∷ [] }
-    ensures default { words_at (table_of specialising []) 25 ≡ 4 ∷ [] }
-    ensures given { words_at (table_of specialising ((7, 9 ∷ 3 ∷ []) ∷ [])) 25 ≡ 9 ∷ [] }
-    ensures not_named { words_at (table_of specialising ((8, 9 ∷ []) ∷ [])) 25 ≡ 4 ∷ [] }
-    ensures first { words_at (table_of specialising ((7, 9 ∷ []) ∷ (7, 8 ∷ []) ∷ [])) 25 ≡ 9 ∷ [] }
-    ensures missing { words_at (table_of specialising ((7, []) ∷ [])) 25 ≡ 0 ∷ [] }
-    ensures boolean { words_at (table_of specialising ((8, 9 ∷ []) ∷ [])) 27 ≡ 1 ∷ [] }
-    ensures boolean_zero { words_at (table_of specialising ((8, 0 ∷ []) ∷ [])) 27 ≡ 0 ∷ [] }
-    ensures boolean_default { words_at (table_of specialising []) 27 ≡ 1 ∷ [] }
-    ensures array { cells (type_at (table_of specialising ((7, 9 ∷ []) ∷ [])) 26) ≡ 9 }
-    ensures lengths { array_lengths specialising (table_of specialising []) ≡ 4 ∷ 0 ∷ [] }
-{}
-
 /// An access is volatile where its variable or parameter or a member on its chain is decorated so, or its memory
 /// operands say so.
-#[tactic(auto, unfolding(spv_module::specs::Code::cut, spv_words::specs::Words::bytes_of_words, crate::specs::Statements::statements_in, crate::specs::Setting::setting, crate::specs::Places::locate, crate::specs::Operations::outcome, crate::specs::Steps::look, crate::specs::Steps::first_state, crate::specs::Machine::Trace))]
+#[tactic(auto, unfolding(spv_module::specs::Code::cut, spv_words::specs::Words::bytes_of_words, spv_meaning::specs::Statements::statements_in, crate::specs::Setting::setting, crate::specs::Places::locate, crate::specs::Operations::outcome, crate::specs::Steps::look, crate::specs::Steps::first_state, crate::specs::Machine::Trace))]
 pub fn facts_of_volatility()
     ensures plain { volatilities (Trace doubling (on (5 ∷ [])) 0 7 ([] ∷ [] ∷ [])).accesses ≡ false ∷ false ∷ [] }
     ensures variable { volatilities (Trace volatile_variable (on (5 ∷ [])) 0 7 ([] ∷ [] ∷ [])).accesses ≡ true ∷ true ∷ [] }

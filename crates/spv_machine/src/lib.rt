@@ -8,7 +8,7 @@ mod facts;
 mod laws;
 
 pub use facts::{
-    facts_of_constants, facts_of_control, facts_of_dispatches, facts_of_doubling, facts_of_effects,
+    facts_of_control, facts_of_dispatches, facts_of_doubling, facts_of_effects,
     facts_of_places, facts_of_two_invocations, facts_of_volatility, facts_of_wrong_passes,
 };
 pub use laws::{schedules_law, silence_law, strip_law};

@@ -1,7 +1,7 @@
 use Rattle.std.proofs.Common.{refl, arith}
 use Rattle.spv_module.specs.Code.{cut}
 use Rattle.spv_words.specs.Words.{bytes_of_words}
-use Rattle.spv_machine.specs.Statements.{statements_in}
+use Rattle.spv_meaning.specs.Statements.{statements_in}
 use Rattle.spv_machine.specs.Machine.{Fits}
 use Rattle.spv_machine.proofs.facts.facts_of_dispatches.Goals as goal
 

@@ -4,7 +4,7 @@ use Rattle.spv_words.specs.Words.{bytes_of_words}
 use Rattle.spv_value.specs.Eval.{Eval, op_rules}
 use Rattle.spv_value.specs.Arith.{i_mul}
 use Rattle.spv_value.specs.Numbers.{wrapped}
-use Rattle.spv_machine.specs.Statements.{statements_in}
+use Rattle.spv_meaning.specs.Statements.{statements_in}
 use Rattle.spv_machine.specs.Setting.{setting}
 use Rattle.spv_machine.specs.Places.{locate}
 use Rattle.spv_machine.specs.Effects.{after, answer}

@@ -1,7 +1,7 @@
 -- Types of values, and the words of a value: how many they are, which are booleans, and at which positions they lie.
 use Rattle.std.specs.Prelude.{ℕ, zero, suc, ◌+◌, ◌*◌, ◌/◌, ◌%◌, ◌^◌, Bool, true, false, cond, ◌==◌, nat_lt, List, [], ◌∷◌, ◌++◌, map, length, Option, Some, None}
 
--- Sizes are in words: the stride of an array, and the offset of a member, as decorations give them. A member may be volatile.
+-- The stride of an array and the offset of a member are in bytes, where a decoration gives them. A member may be volatile.
 mutual
   pub data DataType : Type 0 where
     -- what has no value
@@ -9,13 +9,18 @@ mutual
     Boolean : DataType
     Integer : (width : ℕ) (signed : Bool) → DataType
     Vector : (count : ℕ) (component : DataType) → DataType
-    Array : (stride count : ℕ) (element : DataType) → DataType
-    RuntimeArray : (stride : ℕ) (element : DataType) → DataType
+    Array : (stride : Option ℕ) (count : ℕ) (element : DataType) → DataType
+    RuntimeArray : (stride : Option ℕ) (element : DataType) → DataType
     Struct : Members → DataType
 
   pub data Members : Type 0 where
     NoMember : Members
-    Member : (offset : ℕ) (volatile : Bool) (part : DataType) → Members → Members
+    Member : (offset : Option ℕ) (volatile : Bool) (part : DataType) → Members → Members
+
+-- bytes as words, 0 where none are given
+abbrev pub in_words : Option ℕ → ℕ
+in_words None = 0
+in_words (Some bytes) = bytes / 4
 
 -- n copies of a list, one after another
 abbrev pub copies : {X : Type 0} → ℕ → List X → List X
@@ -68,14 +73,14 @@ abbrev mutual
   spots laid Boolean = 0 ∷ []
   spots laid (Integer width signed) = repeated (width / 32) 1 (0 ∷ [])
   spots laid (Vector count t) = repeated count (cells t) (spots laid t)
-  spots laid (Array stride count t) = repeated count (cond laid stride (cells t)) (spots laid t)
+  spots laid (Array stride count t) = repeated count (cond laid (in_words stride) (cells t)) (spots laid t)
   spots laid (RuntimeArray stride t) = []
   spots laid (Struct members) = member_spots laid 0 members
 
   -- the first member is at `packed` if it is not laid out
   pub member_spots : (laid : Bool) (packed : ℕ) → Members → List ℕ
   member_spots laid packed NoMember = []
-  member_spots laid packed (Member offset volatile t rest) = moved_by (cond laid offset packed) (spots laid t) ++ member_spots laid (packed + cells t) rest
+  member_spots laid packed (Member offset volatile t rest) = moved_by (cond laid (in_words offset) packed) (spots laid t) ++ member_spots laid (packed + cells t) rest
 
 -- words as one number, the lowest first
 abbrev pub number_in : List ℕ → ℕ
