@@ -1,0 +1,5 @@
+//! decorations
+#![tactic(auto)]
+
+pub fn law()
+{}

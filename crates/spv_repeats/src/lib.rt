@@ -1,0 +1,5 @@
+//! repeats
+#![tactic(auto)]
+
+pub fn law()
+{}

@@ -1,0 +1,5 @@
+//! types
+#![tactic(auto)]
+
+pub fn law()
+{}

@@ -1,0 +1,5 @@
+//! typing
+#![tactic(auto)]
+
+pub fn law()
+{}
