@@ -1,5 +1,7 @@
 pub mod Depth
-pub mod Declared
+pub mod Declarations
 pub mod Constants
 pub mod Broken
 pub mod Sound
+pub mod Facts
+pub mod Meanings

@@ -1,5 +1,8 @@
-//! types
+//! Types, constants and global variables of a module, and the rules on them.
 #![tactic(auto)]
 
-pub fn law()
-{}
+pub mod facts;
+pub mod meaning;
+
+pub use facts::TypeFacts;
+pub use meaning::{Constant, Kept, Value};
