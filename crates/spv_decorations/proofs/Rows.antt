@@ -1,18 +1,18 @@
 -- Which instructions say that something is decorated: OpDecorate and OpMemberDecorate alone.
-use Rattle.std.proofs.Common.{◌≡◌, ℕ, ◌==◌, ◌&&◌, Bool, true, false, cond, nat_eq, List, [], ◌∷◌, ◌++◌, map, drop, slice_index, Option, Some, None, refl, sym, ap, ◌∙◌, true≢false, eqb-true, subst}
-use Rattle.std.specs.Map.{lookup}
+use Rattle.std.proofs.Common.{◌≡◌, ℕ, ◌==◌, ◌&&◌, Bool, true, false, cond, nat_eq, List, [], ◌∷◌, ◌++◌, map, take, drop, slice_index, Option, Some, None, refl, sym, ap, ◌∙◌, true≢false, eqb-true, subst}
+use Rattle.std.specs.Map.{lookup, keys_of}
 use Rattle.spv_opcodes.specs.declared.op.TheConstants as op
 use Rattle.spv_opcodes.specs.declared.execution_mode.TheConstants as execution_mode
 use Rattle.spv_meaning.specs.Statements as says
 use Rattle.spv_meaning.specs.Statements.{Statement, Rows, by_row, rows, module_rows, type_rows, constant_rows, flow_rows, memory_rows, operation_rows, atomic, evaluated, spec_constant_op, of_constants, is_silent_opcode}
 use Rattle.spv_meaning.specs.Constants.{decorated, member_decorated}
 
-abbrev is_decoration : Statement → Bool
+abbrev pub is_decoration : Statement → Bool
 is_decoration (says.Decorate target what literals) = true
 is_decoration (says.MemberDecorate target member what literals) = true
 is_decoration other = false
 
-abbrev IsPlain : Statement → Type 0
+abbrev pub IsPlain : Statement → Type 0
 IsPlain s = is_decoration s ≡ false
 
 -- the row of an opcode, if it is among these, says nothing of decorations
@@ -21,8 +21,8 @@ ArePlain o [] = Unit {0}
 ArePlain o (r ∷ rs) = ((ws : List ℕ) → nat_eq o r.0 ≡ true → IsPlain (r.1 ws)) × ArePlain o rs
 
 first_row : (b : Bool) (row : List ℕ → Statement) (rest : Option (List ℕ → Statement)) (ws : List ℕ) → (b ≡ true → IsPlain (row ws)) → IsPlain (by_row rest ws) → IsPlain (by_row (cond b (Some row) rest) ws)
-first_row true row rest ws yes no = yes refl
-first_row false row rest ws yes no = no
+first_row true row rest ws here behind = here refl
+first_row false row rest ws here behind = behind
 
 -- induction on the rows
 by_plain_rows : (o : ℕ) (rs : Rows) → ArePlain o rs → (ws : List ℕ) → IsPlain (by_row (lookup (nat_eq o) rs) ws)
@@ -44,6 +44,12 @@ either_plain false s t p q = q
 constants_plain : (s : Statement) → IsPlain (of_constants s)
 constants_plain (says.Operation computation t r operands) = refl
 constants_plain other = refl
+
+spec_plain : (ws : List ℕ) → IsPlain (spec_constant_op ws)
+spec_plain ws = constants_plain (by_row (lookup (nat_eq (slice_index ws 2)) operation_rows) (take 2 ws ++ drop 3 ws))
+
+abbrev behind_constants : Rows
+behind_constants = (op.SPEC_CONSTANT_OP, spec_constant_op) ∷ (flow_rows ++ (memory_rows ++ operation_rows))
 
 module _ (o : ℕ) where
   module_plain : nat_eq o op.DECORATE ≡ false → nat_eq o op.MEMBER_DECORATE ≡ false → ArePlain o module_rows
@@ -67,18 +73,18 @@ module _ (o : ℕ) where
 
   memory_plain : ArePlain o memory_rows
   memory_plain =
-      (λ ws h. refl, (λ ws h. refl, (λ ws h. refl, (λ ws h. refl, (λ ws h. refl, (λ ws h. refl, (λ ws h. refl, (λ ws h. refl, (λ ws h. refl, plain-map o atomic (λ n ws. refl) _)))))))))
+      (λ ws h. refl, (λ ws h. refl, (λ ws h. refl, (λ ws h. refl, (λ ws h. refl, (λ ws h. refl, (λ ws h. refl, (λ ws h. refl, (λ ws h. refl, plain-map o atomic (λ n ws. refl) (keys_of (drop 9 memory_rows)))))))))))
 
   operation_plain : ArePlain o operation_rows
   operation_plain =
-      (λ ws h. refl, (λ ws h. refl, (λ ws h. refl, (λ ws h. refl, (λ ws h. refl, (λ ws h. refl, (λ ws h. refl, (λ ws h. refl, (λ ws h. refl, plain-map o evaluated (λ n ws. refl) _)))))))))
+      (λ ws h. refl, (λ ws h. refl, (λ ws h. refl, (λ ws h. refl, (λ ws h. refl, (λ ws h. refl, (λ ws h. refl, (λ ws h. refl, (λ ws h. refl, plain-map o evaluated (λ n ws. refl) (keys_of (drop 9 operation_rows)))))))))))
 
   rows_plain : nat_eq o op.DECORATE ≡ false → nat_eq o op.MEMBER_DECORATE ≡ false → ArePlain o rows
   rows_plain first second =
-      plain-append o module_rows _ (module_plain first second)
-      (plain-append o type_rows _ type_plain
-      (plain-append o constant_rows _ constant_plain
-      (λ ws h. constants_plain _, plain-append o flow_rows _ flow_plain (plain-append o memory_rows operation_rows memory_plain operation_plain))))
+      plain-append o module_rows (type_rows ++ (constant_rows ++ behind_constants)) (module_plain first second)
+      (plain-append o type_rows (constant_rows ++ behind_constants) type_plain
+      (plain-append o constant_rows behind_constants constant_plain
+      (λ ws h. spec_plain ws, plain-append o flow_rows (memory_rows ++ operation_rows) flow_plain (plain-append o memory_rows operation_rows memory_plain operation_plain))))
 
   -- an instruction of another opcode says nothing of decorations
   pub row_plain : nat_eq o op.DECORATE ≡ false → nat_eq o op.MEMBER_DECORATE ≡ false → (ws : List ℕ) → IsPlain (by_row (lookup (nat_eq o) rows) ws)

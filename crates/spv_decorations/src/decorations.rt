@@ -1,8 +1,9 @@
-ghost use Rattle.std.specs.Prelude.{◌≡◌, slice_index, OnOk, IfOk};
+ghost use Rattle.std.specs.Prelude.{◌≡◌, OnOk, IfOk};
 ghost use Rattle.spv_module.specs.View.{seen};
 ghost use Rattle.spv_decorations.specs.Index.{HasTargets, HasMembers, AddsTarget, AddsMember};
 
 use indexmap::IndexMap;
+use spv_ids::word;
 use spv_module::{InstList, NoMemory, View};
 use spv_opcodes::op;
 use spv_seed::Seed;
@@ -33,13 +34,6 @@ impl<'a> Model for Decorations<'a> {
     ghost view = { λ decorations. decorations.insts.now };
 
     ghost invariant = { λ decorations. HasTargets decorations.targets decorations.insts.now × HasMembers decorations.members decorations.insts.now };
-}
-
-/// The k-th word of an instruction, counted from 0; 0 past its end.
-fn word(inst: &View, k: usize) -> u32
-    ensures { result ≡ slice_index (seen inst.now).words k }
-{
-    inst.words.get(k).copied().unwrap_or(0)
 }
 
 /// Adds what OpDecorate says of its target, unless that is there.
