@@ -1,0 +1,2 @@
+pub mod Decorations
+pub mod Index
