@@ -1,2 +1,2 @@
-pub mod Decorations
-pub mod Index
+pub mod Targets
+pub mod Globals

@@ -1,7 +1,5 @@
-//! The decorations of a module by their targets, and the rules that each stands on a target that takes it and
-//! that variables outside functions are as their storage classes want them.
+//! decorations
 #![tactic(auto)]
 
-pub mod decorations;
-
-pub use decorations::Decorations;
+pub fn law()
+{}

@@ -89,7 +89,7 @@ is_triple insts t = is_vector insts t && (is_int insts (component insts t) && co
 abbrev pub type_of : List Instruction → ℕ → ℕ
 type_of insts id = word_of insts id 1
 
--- a constant that an OpSpec instruction defines
+-- a constant whose words another module of this kind, or a specialisation, may change
 abbrev pub spec_constants : List ℕ
 spec_constants = op.SPEC_CONSTANT_TRUE ∷ op.SPEC_CONSTANT_FALSE ∷ op.SPEC_CONSTANT ∷ op.SPEC_CONSTANT_COMPOSITE ∷ op.SPEC_CONSTANT_OP ∷ []
 

@@ -1,3 +1,3 @@
 pub mod Kinds
-pub mod Operations
 pub mod Types
+pub mod Operations

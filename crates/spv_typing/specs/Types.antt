@@ -18,13 +18,10 @@ vector_fits insts component count = (is_bool insts component || is_int insts com
 abbrev pub array_fits : List Instruction → (element length : ℕ) → Bool
 array_fits insts element length = is_closed insts element && (is_constant insts length && is_int insts (type_of insts length))
 
--- a struct has a member, and no member but the last is a runtime array; none has one
-abbrev pub last_fits : List Instruction → (member : ℕ) → Bool
-last_fits insts m = is_closed insts m || is_runtime_array insts m
-
+-- a struct has a member, and no member but the last is or has a runtime array
 abbrev pub struct_fits : List Instruction → (members : List ℕ) → Bool
 struct_fits insts [] = false
-struct_fits insts (m ∷ []) = last_fits insts m
+struct_fits insts (m ∷ []) = is_closed insts m || is_runtime_array insts m
 struct_fits insts (m ∷ n ∷ ms) = is_closed insts m && struct_fits insts (n ∷ ms)
 
 -- a pointer points to a data type or a runtime array
@@ -32,11 +29,10 @@ abbrev pub pointer_fits : List Instruction → (target : ℕ) → Bool
 pointer_fits insts target = is_data insts target || is_runtime_array insts target
 
 -- a parameter is of a data type, or a pointer of Function, Private or Workgroup
-abbrev pub class_fits : (class : ℕ) → Bool
-class_fits class = is_one_of (storage_class.FUNCTION ∷ storage_class.PRIVATE ∷ storage_class.WORKGROUP ∷ []) class
-
 abbrev pub parameter_fits : List Instruction → (t : ℕ) → Bool
-parameter_fits insts t = is_data insts t || (is_pointer insts t && class_fits (pointer_class insts t))
+parameter_fits insts t =
+    is_data insts t
+    || (is_pointer insts t && is_one_of (storage_class.FUNCTION ∷ storage_class.PRIVATE ∷ storage_class.WORKGROUP ∷ []) (pointer_class insts t))
 
 -- a function has a data type or void as its return type
 abbrev pub function_fits : List Instruction → (result_type : ℕ) → (parameters : List ℕ) → Bool
