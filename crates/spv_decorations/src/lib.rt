@@ -1,5 +1,0 @@
-//! decorations
-#![tactic(auto)]
-
-pub fn law()
-{}

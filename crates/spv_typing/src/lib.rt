@@ -1,5 +1,0 @@
-//! typing
-#![tactic(auto)]
-
-pub fn law()
-{}
