@@ -1,13 +1,10 @@
--- The last of some words, the members of structs, and the parts that literals lead to.
-use Rattle.std.proofs.Common.{◌≡◌, ℕ, suc, ◌+◌, ◌-◌, ◌<◌, ◌≤◌, Bool, true, false, cond, ◌&&◌, List, [], ◌∷◌, ◌++◌, length, drop, get_or, Option, Some, None, refl, sym, ap, ◌∙◌, add-one, arith}
+-- The last of some words, and the members of structs.
+use Rattle.std.proofs.Common.{◌≡◌, ℕ, ◌-◌, Bool, true, false, ◌&&◌, List, [], ◌∷◌, ◌++◌, length, refl, sym, ap, ◌∙◌, arith}
 use Rattle.std.specs.List.{list_all, slice_get}
 use Rattle.std.specs.Option.{unwrap_or}
-use Rattle.std.proofs.Math.Seq.{drop-cons}
-use Rattle.std.proofs.lemmas.List.{drop_all}
 use Rattle.spv_module.specs.Instruction.{Instruction}
 use Rattle.spv_typing.specs.Kinds.{is_closed, last_id}
 use Rattle.spv_typing.specs.Types.{last_fits, struct_fits}
-use Rattle.spv_typing.specs.Operations.{part_at, part_behind, part_along}
 
 -- induction on the words behind the first
 last_cons : (x : ℕ) (xs : List ℕ) → unwrap_or (slice_get (x ∷ xs) (length xs)) 0 ≡ last_id (x ∷ xs)
@@ -37,11 +34,3 @@ struct_fits-split insts ms others m closed fits split all last =
     ∙ ap (λ (b : Bool). list_all (is_closed insts) others && b) last
     ∙ sym (struct_fits-last insts others m)
     ∙ ap (struct_fits insts) (sym split)
-
--- one literal more
-pub part_along-more : (insts : List Instruction) (literals : List ℕ) (k part : ℕ) → k < length literals →
-    part_along insts (drop k literals) part ≡ part_behind (part_along insts (drop (k + 1) literals)) (part_at insts part (get_or literals k 0))
-part_along-more insts literals k part fits = rw add-one (ap (λ (ls : List ℕ). part_along insts ls part) (drop-cons literals k 0 fits))
-
-pub part_along-all : (insts : List Instruction) (literals : List ℕ) (k part : ℕ) → length literals ≤ k → part_along insts (drop k literals) part ≡ Some part
-part_along-all insts literals k part far = ap (λ (ls : List ℕ). part_along insts ls part) (drop_all k literals far)
