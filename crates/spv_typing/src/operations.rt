@@ -143,9 +143,7 @@ fn is_vector_of(kinds: &Kinds, component: u32, id: u32) -> bool
 fn all_pick(components: u64, literals: &[u32]) -> bool
     ensures { result ≡ operations.all_pick components literals.now }
 {
-    literals
-        .iter()
-        .all(|literal| u64::from(*literal) < components || *literal == NO_COMPONENT)
+    literals.iter().all(|literal| u64::from(*literal) < components || *literal == NO_COMPONENT)
 }
 
 /// How many components two constant vectors have.
