@@ -3,5 +3,12 @@
 #![tactic(auto)]
 
 pub mod decorations;
+pub mod globals;
+pub mod targets;
 
 pub use decorations::Decorations;
+pub use globals::global_fits;
+pub use targets::decoration_fits;
+
+#[cfg(test)]
+mod tests;
