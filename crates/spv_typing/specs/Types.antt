@@ -1,5 +1,5 @@
 -- 303 BadType, but for types that occur twice.
-use Rattle.std.specs.Prelude.{ℕ, Bool, true, false, cond, ◌==◌, ◌&&◌, ◌||◌, not, nat_le, List, [], ◌∷◌, drop, slice_index}
+use Rattle.std.specs.Prelude.{ℕ, Bool, true, false, cond, ◌==◌, ◌&&◌, ◌||◌, nat_le, List, [], ◌∷◌, drop, slice_index}
 use Rattle.std.specs.List.{list_all}
 use Rattle.spv_opcodes.specs.declared.op.TheConstants as op
 use Rattle.spv_opcodes.specs.declared.storage_class.TheConstants as storage_class

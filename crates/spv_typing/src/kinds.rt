@@ -1,12 +1,13 @@
 ghost use Rattle.std.specs.Prelude.{◌≡◌, IfOk};
 ghost use Rattle.std.specs.List.{position_or_len};
 ghost use Rattle.spv_module.specs.Code.{is_function};
+ghost use Rattle.spv_module.specs.View.{seen};
 ghost use Rattle.spv_typing.specs.Kinds as kinds;
 ghost use Rattle.spv_typing.specs.Operations as operations;
 
 use crate::shapes::Shape;
 use spv_ids::Definitions;
-use spv_module::{Flat, NoMemory};
+use spv_module::{Flat, NoMemory, View};
 use spv_opcodes::op;
 use std::alloc::Global;
 use std::marker::Model;
@@ -33,12 +34,19 @@ impl<'a> Model for Kinds<'a> {
     ghost invariant = { λ all. all.outside ≡ position_or_len is_function all.definitions };
 }
 
+/// Whether the instruction begins a function.
+fn begins_function(inst: &View) -> bool
+    ensures { result ≡ is_function (seen inst.now) }
+{
+    inst.opcode() == op::FUNCTION
+}
+
 /// How many instructions stand before the first function.
 fn count_outside(flat: &Flat) -> u32
     ensures { result ≡ position_or_len is_function flat.now.insts }
 {
     'instructions: for k in 0..flat.count() {
-        if flat.at(k).opcode() == op::FUNCTION {
+        if begins_function(&flat.at(k)) {
             return k;
         }
     }
