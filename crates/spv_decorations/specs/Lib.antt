@@ -1,0 +1,4 @@
+pub mod Decorations
+pub mod Index
+pub mod Targets
+pub mod Globals
