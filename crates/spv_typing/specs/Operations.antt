@@ -4,6 +4,8 @@ use Rattle.std.specs.List.{list_all}
 use Rattle.std.specs.Map.{lookup}
 use Rattle.spv_opcodes.specs.declared.op.TheConstants as op
 use Rattle.spv_module.specs.Instruction.{Instruction, opcode}
+pub use Rattle.spv_typing.specs.declared.operations.Form.{Form}
+pub use Rattle.spv_typing.specs.declared.operations.Form.TheVariants.{Ints, Bools, Compares, Selects, Shuffles, Extracts, Inserts}
 use Rattle.spv_typing.specs.Kinds.{is_bool, is_int, is_vector, is_array, is_struct, component, component_count, element, members, is_constant, type_of}
 
 -- Int(c) or Bool(c): a scalar or a vector of c components; a scalar has one
@@ -47,27 +49,7 @@ abbrev pub leads_to : (t : ℕ) → Option ℕ → Bool
 leads_to t None = false
 leads_to t (Some u) = u == t
 
--- what the operands and the result of an operation are
-pub data Form : Type 0 where
-  -- so many Int(c), and Int(c)
-  Ints : (operands : ℕ) → Form
-  -- so many Bool(c), and Bool(c)
-  Bools : (operands : ℕ) → Form
-  -- two Int(c), and Bool(c)
-  Compares : Form
-  -- a condition, and two of the result's type
-  Selects : Form
-  -- two vectors of the result's component type, and a literal for each component of the result
-  Shuffles : Form
-  -- a composite, and literals that lead to the result's type
-  Extracts : Form
-  -- an object, a composite of the result's type, and literals that lead to the object's type
-  Inserts : Form
-
 -- the operations that OpSpecConstantOp may name
-abbrev pub int_operations : (operands : ℕ) → List ℕ → List (ℕ × Form)
-int_operations n opcodes = map (λ o. (o, Ints n)) opcodes
-
 abbrev pub spec_operations : List (ℕ × Form)
 spec_operations =
     (op.S_NEGATE, Ints 1) ∷ (op.NOT, Ints 1)
@@ -81,6 +63,9 @@ spec_operations =
     ∷ (op.U_GREATER_THAN, Compares) ∷ (op.S_GREATER_THAN, Compares) ∷ (op.U_GREATER_THAN_EQUAL, Compares) ∷ (op.S_GREATER_THAN_EQUAL, Compares)
     ∷ (op.U_LESS_THAN, Compares) ∷ (op.S_LESS_THAN, Compares) ∷ (op.U_LESS_THAN_EQUAL, Compares) ∷ (op.S_LESS_THAN_EQUAL, Compares)
     ∷ (op.SELECT, Selects) ∷ (op.VECTOR_SHUFFLE, Shuffles) ∷ (op.COMPOSITE_EXTRACT, Extracts) ∷ (op.COMPOSITE_INSERT, Inserts) ∷ []
+
+abbrev pub form_of : (opcode : ℕ) → Option Form
+form_of opcode = lookup (nat_eq opcode) spec_operations
 
 -- each is a constant of this shape
 abbrev pub all_shaped : List Instruction → (is_boolean : Bool) (count : ℕ) → (ids : List ℕ) → Bool
@@ -127,4 +112,4 @@ form_fits insts (Some form) t ids = operands_fit insts form t ids
 -- an OpSpecConstantOp names an operation of these, which its operands and its result's type fit; every other instruction passes
 abbrev pub spec_op_fits : List Instruction → Instruction → Bool
 spec_op_fits insts i =
-    not (opcode i == op.SPEC_CONSTANT_OP) || form_fits insts (lookup (nat_eq (slice_index i.words 3)) spec_operations) (slice_index i.words 1) (drop 4 i.words)
+    not (opcode i == op.SPEC_CONSTANT_OP) || form_fits insts (form_of (slice_index i.words 3)) (slice_index i.words 1) (drop 4 i.words)

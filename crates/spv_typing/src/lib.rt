@@ -1,5 +1,6 @@
 //! typing
 #![tactic(auto)]
 
-pub fn law()
-{}
+pub mod operations;
+
+pub fn law() {}
