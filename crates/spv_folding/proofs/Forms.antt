@@ -52,7 +52,7 @@ length-cond false c xs ys h k = k
 
 length-choice : (c : ℕ) (cs xs ys : List ℕ) → (length cs ≡ 1) ⊎ (length cs ≡ c) → length xs ≡ c → length ys ≡ c → length (choice cs xs ys) ≡ c
 length-choice c cs xs ys condition h k =
-    elim eqb_tells (length cs) 1 [
+    elim (eqb_tells (length cs) 1) [
       | inl one ↦ rw one.0 (length-cond (is_one (slice_index cs 0)) c xs ys h k)
       | inr many ↦ rw many.0 (length-zip_with3 select c cs xs ys (elim condition [ inl one ↦ absurd (many.1 one) | inr same ↦ same ]) h k)
     ]
@@ -86,7 +86,7 @@ cond_booleans false xs ys h k = k
 
 choice_booleans : (cs xs ys : List ℕ) → AreBooleanWords xs → AreBooleanWords ys → AreBooleanWords (choice cs xs ys)
 choice_booleans cs xs ys h k =
-    elim eqb_tells (length cs) 1 [
+    elim (eqb_tells (length cs) 1) [
       | inl one ↦ rw one.0 (cond_booleans (is_one (slice_index cs 0)) xs ys h k)
       | inr many ↦ rw many.0 (selected_two cs xs ys h k)
     ]
@@ -129,7 +129,7 @@ operations_fit =
 fits_in : (rows : List (ℕ × Form)) (opcode : ℕ) (form : Form) → AllFit rows → lookup (nat_eq opcode) rows ≡ Some form → Fits form (rule_at opcode (op_rules 32))
 fits_in [] opcode form all e = absurd (cc)
 fits_in (row ∷ rows) opcode form all e =
-    elim eqb_tells opcode row.0 [
+    elim (eqb_tells opcode row.0) [
       | inl here ↦
         let P : Form → Type 0 = λ f. Fits f (rule_at opcode (op_rules 32)) in
         let Q : ℕ → Type 0 = λ k. Fits row.1 (rule_at k (op_rules 32)) in
