@@ -1,0 +1,9 @@
+//! What OpSpecConstantOp computes of constants that are scalars and vectors.
+#![tactic(auto)]
+
+pub mod operands;
+pub mod operations;
+
+pub use operands::{component, of_word, of_words, with_component, zeros};
+pub use operations::{evaluate, shuffle};
+
