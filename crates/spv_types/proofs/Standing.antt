@@ -4,14 +4,17 @@ use Rattle.std.specs.List.{list_any}
 use Rattle.std.specs.Map.{lookup}
 use Rattle.std.proofs.lemmas.Bool.Decides.{nat_tests}
 use Rattle.std.proofs.lemmas.Option.{none-some}
-use Rattle.spv_meaning.specs.Constants.{Table, Meaning, IsType, IsPointer, IsConstant, IsVariable, meaning}
-use Rattle.spv_meaning.specs.Types.{DataType}
+use Rattle.indexmap.proofs.CallerLemmas.{insert_entry-new}
+use Rattle.spv_meaning.specs.Constants.{Table, Meaning, IsType, IsPointer, IsConstant, IsVariable, meaning, type_in, type_at, pointer_in, pointer_at}
+use Rattle.spv_meaning.specs.Types.{DataType, Void}
 use Rattle.spv_typing.specs.Kinds.{is_one_of}
 use Rattle.spv_types.specs.declared.meaning.Kept.{Kept}
 use Rattle.spv_types.specs.declared.meaning.Kept.TheVariants as kept
 use Rattle.spv_types.specs.declared.meaning.Value.{Value}
 use Rattle.spv_types.specs.declared.meaning.Value.TheVariants.{Small, Zeros, Parts}
-use Rattle.spv_types.specs.Meanings.{IsValue, AllBelow, StandsFor, StandFrom, StandFor, words_numbered, words_in_entry, joined}
+use Rattle.spv_types.specs.declared.facts.TypeFacts.{TypeFacts}
+use Rattle.spv_types.specs.Facts.{facts}
+use Rattle.spv_types.specs.Meanings.{type_of_kept, pointee_of_kept, IsValue, AllBelow, StandsFor, StandFrom, StandFor, words_numbered, words_in_entry, joined}
 
 -- ---- look-ups
 
@@ -155,3 +158,57 @@ StandFor-none table ids ks h id none = by (lookup (nat_eq id) ks) (subst (λ o. 
     by : (o : Option Kept) → AreAlike table ids id o None → o ≡ None
     by None alike = refl
     by (Some k) alike = absurd alike
+
+-- ---- types
+
+type_alike : (table : Table) (ids : List ℕ) (r : ℕ) (k : Option Kept) (m : Option Meaning) → AreAlike table ids r k m → type_of_kept k ≡ facts (type_in m)
+type_alike table ids r None None h = refl
+type_alike table ids r None (Some m) h = absurd h
+type_alike table ids r (Some k) None h = absurd h
+type_alike table ids r (Some (kept.Type f)) (Some (IsType t)) h = h.1
+type_alike table ids r (Some (kept.Type f)) (Some (IsPointer class t)) h = absurd h.1
+type_alike table ids r (Some (kept.Type f)) (Some (IsConstant t words)) h = absurd h.1
+type_alike table ids r (Some (kept.Type f)) (Some (IsVariable class t words)) h = absurd h.1
+type_alike table ids r (Some (kept.Pointer f)) (Some (IsType t)) h = absurd h.1
+type_alike table ids r (Some (kept.Pointer f)) (Some (IsPointer class t)) h = refl
+type_alike table ids r (Some (kept.Pointer f)) (Some (IsConstant t words)) h = absurd h.1
+type_alike table ids r (Some (kept.Pointer f)) (Some (IsVariable class t words)) h = absurd h.1
+type_alike table ids r (Some (kept.Constant c)) (Some (IsType t)) h = absurd h.1
+type_alike table ids r (Some (kept.Constant c)) (Some (IsPointer class t)) h = absurd h.1
+type_alike table ids r (Some (kept.Constant c)) (Some (IsConstant t words)) h = refl
+type_alike table ids r (Some (kept.Constant c)) (Some (IsVariable class t words)) h = absurd h.1
+type_alike table ids r (Some kept.Variable) (Some (IsType t)) h = absurd h.1
+type_alike table ids r (Some kept.Variable) (Some (IsPointer class t)) h = absurd h.1
+type_alike table ids r (Some kept.Variable) (Some (IsConstant t words)) h = absurd h.1
+type_alike table ids r (Some kept.Variable) (Some (IsVariable class t words)) h = refl
+
+pointee_alike : (table : Table) (ids : List ℕ) (r : ℕ) (k : Option Kept) (m : Option Meaning) → AreAlike table ids r k m → pointee_of_kept k ≡ facts (pointer_in m).1
+pointee_alike table ids r None None h = refl
+pointee_alike table ids r None (Some m) h = absurd h
+pointee_alike table ids r (Some k) None h = absurd h
+pointee_alike table ids r (Some (kept.Type f)) (Some (IsType t)) h = refl
+pointee_alike table ids r (Some (kept.Type f)) (Some (IsPointer class t)) h = absurd h.1
+pointee_alike table ids r (Some (kept.Type f)) (Some (IsConstant t words)) h = absurd h.1
+pointee_alike table ids r (Some (kept.Type f)) (Some (IsVariable class t words)) h = absurd h.1
+pointee_alike table ids r (Some (kept.Pointer f)) (Some (IsType t)) h = absurd h.1
+pointee_alike table ids r (Some (kept.Pointer f)) (Some (IsPointer class t)) h = h.1
+pointee_alike table ids r (Some (kept.Pointer f)) (Some (IsConstant t words)) h = absurd h.1
+pointee_alike table ids r (Some (kept.Pointer f)) (Some (IsVariable class t words)) h = absurd h.1
+pointee_alike table ids r (Some (kept.Constant c)) (Some (IsType t)) h = absurd h.1
+pointee_alike table ids r (Some (kept.Constant c)) (Some (IsPointer class t)) h = absurd h.1
+pointee_alike table ids r (Some (kept.Constant c)) (Some (IsConstant t words)) h = refl
+pointee_alike table ids r (Some (kept.Constant c)) (Some (IsVariable class t words)) h = absurd h.1
+pointee_alike table ids r (Some kept.Variable) (Some (IsType t)) h = absurd h.1
+pointee_alike table ids r (Some kept.Variable) (Some (IsPointer class t)) h = absurd h.1
+pointee_alike table ids r (Some kept.Variable) (Some (IsConstant t words)) h = absurd h.1
+pointee_alike table ids r (Some kept.Variable) (Some (IsVariable class t words)) h = refl
+
+pub type_kept : (table : Table) (ids : List ℕ) (ks : List (ℕ × Kept)) (id : ℕ) → StandFor table ids ks → type_of_kept (lookup (nat_eq id) ks) ≡ facts (type_at table id)
+type_kept table ids ks id h = type_alike table ids id (lookup (nat_eq id) ks) (lookup (nat_eq id) table) (StandFrom-lookup table ids 0 ks table h id)
+
+pub pointee_kept : (table : Table) (ids : List ℕ) (ks : List (ℕ × Kept)) (id : ℕ) → StandFor table ids ks → pointee_of_kept (lookup (nat_eq id) ks) ≡ facts (pointer_at table id).1
+pointee_kept table ids ks id h = pointee_alike table ids id (lookup (nat_eq id) ks) (lookup (nat_eq id) table) (StandFrom-lookup table ids 0 ks table h id)
+
+-- ---- insertion
+
+pub ruleset entries = (insert_entry-new)

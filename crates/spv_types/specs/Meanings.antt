@@ -2,8 +2,9 @@
 use Rattle.std.specs.Prelude.{◌≡◌, ℕ, zero, suc, ◌+◌, ◌<◌, Bool, true, false, List, [], ◌∷◌, ◌++◌, map, length, replicate, slice_get, Option, Some, None}
 use Rattle.spv_value.specs.Words.{words_of}
 use Rattle.spv_meaning.specs.Constants.{Table, Meaning, IsType, IsPointer, IsConstant, IsVariable}
-use Rattle.spv_meaning.specs.Types.{DataType, Boolean, Integer, Vector}
+use Rattle.spv_meaning.specs.Types.{DataType, Void, Boolean, Integer, Vector}
 use Rattle.spv_typing.specs.Kinds.{is_one_of}
+use Rattle.spv_types.specs.declared.facts.TypeFacts.{TypeFacts}
 use Rattle.spv_types.specs.declared.meaning.Constant.{Constant}
 use Rattle.spv_types.specs.declared.meaning.Value.{Value}
 use Rattle.spv_types.specs.declared.meaning.Value.TheVariants.{Small, Zeros, Parts}
@@ -58,3 +59,12 @@ StandFrom table specialised n (k ∷ ks) (t ∷ ts) = (k.0 ≡ t.0) × (StandsFo
 
 abbrev pub StandFor : Table → (specialised : List ℕ) → List (ℕ × Kept) → Type 0
 StandFor table specialised ks = StandFrom table specialised 0 ks table
+
+-- what a look-up of a type gives, void for everything else
+abbrev pub type_of_kept : Option Kept → TypeFacts
+type_of_kept (Some (kept.Type f)) = f
+type_of_kept k = facts Void
+
+abbrev pub pointee_of_kept : Option Kept → TypeFacts
+pointee_of_kept (Some (kept.Pointer f)) = f
+pointee_of_kept k = facts Void

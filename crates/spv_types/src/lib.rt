@@ -3,6 +3,7 @@
 
 pub mod facts;
 pub mod meaning;
+mod meanings;
 
 pub use facts::TypeFacts;
 pub use meaning::{Constant, Kept, Value};
