@@ -5,3 +5,4 @@ pub mod Broken
 pub mod Sound
 pub mod Facts
 pub mod Meanings
+pub mod Steps

@@ -68,3 +68,21 @@ type_of_kept k = facts Void
 abbrev pub pointee_of_kept : Option Kept → TypeFacts
 pointee_of_kept (Some (kept.Pointer f)) = f
 pointee_of_kept k = facts Void
+
+-- what a look-up of a constant gives
+abbrev pub constant_of_kept : Option Kept → Option Constant
+constant_of_kept (Some (kept.Constant c)) = Some c
+constant_of_kept k = None
+
+abbrev pub second : Option (ℕ × Kept) → Option Kept
+second None = None
+second (Some e) = Some e.1
+
+-- how many words a constant has, where one is kept
+abbrev pub cells_of_constant : Option Constant → Option ℕ
+cells_of_constant None = Some 0
+cells_of_constant (Some c) = c.cells
+
+-- the entries stand for those of some table
+abbrev pub Stand : List (ℕ × Kept) → Type 0
+Stand ks = (table : Table) × (ids : List ℕ) × StandFor table ids ks

@@ -4,6 +4,7 @@
 pub mod facts;
 pub mod meaning;
 mod meanings;
+mod words;
 
 pub use facts::TypeFacts;
 pub use meaning::{Constant, Kept, Value};
