@@ -118,6 +118,9 @@ fn answers(alloc: Global, inst: &[u32]) -> Result<Option<(bool, bool)>, NoMemory
     words.extend_from_slice(&DECLARATIONS)?;
     words.extend_from_slice(inst)?;
     words.extend_from_slice(&FUNCTION)?;
+    if words.len() > 1000 {
+        return Ok(None);
+    }
     let Ok(flat) = decode(alloc, &words) else {
         return Ok(None);
     };
