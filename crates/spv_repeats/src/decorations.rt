@@ -12,9 +12,9 @@ use spv_opcodes::{builtin, decoration, op};
 use std::alloc::Global;
 use std::collections::BTreeSet;
 
-/// What decorations that were seen say.
+/// What is kept of the decorations that were seen.
 #[derive(Debug, Drop)]
-pub struct Decorations {
+struct Decorations {
     /// The target and the decoration, of OpDecorate.
     targets: BTreeSet<(u32, u32)>,
     /// The struct, the member and the decoration, of OpMemberDecorate.
@@ -25,7 +25,7 @@ pub struct Decorations {
     workgroup_size: bool,
 }
 
-/// Whether a target or a member has one decoration of this kind.
+/// Whether a decoration of this kind may stand only once on a target or a member.
 fn is_single(kind: u32) -> bool
     ensures { result ≡ is_one_of single_decorations kind }
 {

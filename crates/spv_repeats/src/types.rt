@@ -13,7 +13,7 @@ use spv_opcodes::op;
 use std::alloc::Global;
 use std::collections::BTreeSet;
 
-/// Whether a module has one type of this opcode and these words.
+/// Whether a type of this opcode may stand only once.
 fn is_unique(opcode: u16) -> bool
     ensures { result ≡ is_one_of unique_types opcode }
 {
