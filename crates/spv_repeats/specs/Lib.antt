@@ -1,1 +1,3 @@
 pub mod Repeats
+pub mod Marks
+pub mod Steps

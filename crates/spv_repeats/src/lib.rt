@@ -1,5 +1,15 @@
-//! repeats
+//! What may stand once in a module and stands again: types and decorations.
 #![tactic(auto)]
 
-pub fn law()
-{}
+mod decorations;
+mod keys;
+mod marks;
+mod types;
+mod words;
+
+pub use decorations::repeated_decorations;
+pub use marks::Marks;
+pub use types::repeated_types;
+
+#[cfg(test)]
+mod tests;

@@ -1,0 +1,14 @@
+use Rattle.std.proofs.Common.{arith}
+use Rattle.spv_module.specs.View.{seen}
+use Rattle.spv_repeats.specs.Repeats.{repeats}
+use Rattle.spv_repeats.specs.Steps.{HasDecorations}
+use Rattle.spv_repeats.proofs.Marking.{marked-step, marked-all}
+use Rattle.spv_repeats.proofs.decorations.repeated_decorations.Goals as goal
+
+pub instructions-preserved : goal.instructions-preserved
+instructions-preserved c =
+    marked-step HasDecorations repeats c.args.insts.now c.instructions.k (seen c.at.result) c.instructions.seen c.add.new.self c.instructions.marks c.push.new.self c.in_ok-again.again c.instructions.invariant (omega arith) c.at.ensures
+    c.in_ok-again.ensures c.in_ok-push.ensures.ok
+
+pub returns : goal.returns
+returns c = marked-all HasDecorations repeats c.args.insts.now c.instructions.k c.instructions.seen c.instructions.marks c.instructions.invariant (omega arith)
