@@ -62,7 +62,7 @@ adds_member old new i x y z v here e f g h absent updates = record {
       let o = get is_same_member old (id, member, d) in
       updates.0 (id, member, d)
       ∙ added_first ((x == id && y == member) && z == d) o v
-          (λ same. subst (λ (k : ℕ × ℕ × ℕ). get is_same_member old k ≡ None) (same_member (x, y, z) (id, member, d) same) (not_some (get is_same_member old (x, y, z)) absent))
+      (λ same. subst (λ (k : ℕ × ℕ × ℕ). get is_same_member old k ≡ None) (same_member (x, y, z) (id, member, d) same) (not_some (get is_same_member old (x, y, z)) absent))
       ∙ ap (λ (b : Bool). option_or o (cond b (Some v) None)) (and_assoc (x == id) (y == member) (z == d))
       ∙ ap (λ (n : ℕ). option_or o (cond (n == id && (y == member && z == d)) (Some v) None)) e
       ∙ ap (λ (n : ℕ). option_or o (cond (slice_index i.words 1 == id && (n == member && z == d)) (Some v) None)) f
@@ -75,11 +75,11 @@ adds_member old new i x y z v here e f g h absent updates = record {
 
 pub has-none_targets : (targets : Targets) → targets.entries ≡ [] → HasTargets targets []
 unfolding statements_in
-has-none_targets targets empty = record { at = λ id d. ap (lookup (is_same (id, d))) empty; }
+has-none_targets targets empty = record { at = λ id d. ap (lookup (is_same (id, d))) empty }
 
 pub has-none_members : (members : Members) → members.entries ≡ [] → HasMembers members []
 unfolding statements_in
-has-none_members members empty = record { at = λ id member d. ap (lookup (is_same_member (id, member, d))) empty; }
+has-none_members members empty = record { at = λ id member d. ap (lookup (is_same_member (id, member, d))) empty }
 
 take-at : (insts : List Instruction) (k : ℕ) (i : Instruction) → k < length insts → slice_get insts k ≡ Some i → take (k + 1) insts ≡ take k insts ++ i ∷ []
 take-at insts k i fits at = rw add-one (take-suc insts k i fits ∙ ap (λ (j : Instruction). take k insts ++ j ∷ []) (get_or_from_slice_get insts k i i at))

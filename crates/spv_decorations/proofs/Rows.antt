@@ -53,11 +53,16 @@ behind_constants = (op.SPEC_CONSTANT_OP, spec_constant_op) ∷ (flow_rows ++ (me
 
 module _ (o : ℕ) where
   module_plain : nat_eq o op.DECORATE ≡ false → nat_eq o op.MEMBER_DECORATE ≡ false → ArePlain o module_rows
-  module_plain first second =
-      (λ ws h. refl,
-      (λ ws h. either_plain (slice_index ws 1 == execution_mode.LOCAL_SIZE) _ _ refl refl,
-      (λ ws h. either_plain (slice_index ws 1 == execution_mode.LOCAL_SIZE_ID) _ _ refl refl,
-      (λ ws h. absurd (true≢false (sym h ∙ first)), (λ ws h. absurd (true≢false (sym h ∙ second)), tt)))))
+  module_plain first second = (
+    λ ws h. refl,
+    (
+      λ ws h. either_plain (slice_index ws 1 == execution_mode.LOCAL_SIZE) _ _ refl refl,
+      (
+        λ ws h. either_plain (slice_index ws 1 == execution_mode.LOCAL_SIZE_ID) _ _ refl refl,
+        (λ ws h. absurd (true≢false (sym h ∙ first)), (λ ws h. absurd (true≢false (sym h ∙ second)), tt)),
+      ),
+    ),
+  )
 
   type_plain : ArePlain o type_rows
   type_plain = (λ ws h. refl, (λ ws h. refl, (λ ws h. refl, (λ ws h. refl, (λ ws h. refl, (λ ws h. refl, (λ ws h. refl, tt)))))))
@@ -67,9 +72,28 @@ module _ (o : ℕ) where
       (λ ws h. refl, (λ ws h. refl, (λ ws h. refl, (λ ws h. refl, (λ ws h. refl, (λ ws h. refl, (λ ws h. refl, (λ ws h. refl, (λ ws h. refl, (λ ws h. refl, (λ ws h. refl, tt)))))))))))
 
   flow_plain : ArePlain o flow_rows
-  flow_plain =
-      (λ ws h. refl, (λ ws h. refl, (λ ws h. refl, (λ ws h. refl, (λ ws h. refl, (λ ws h. refl, (λ ws h. refl,
-      (λ ws h. refl, (λ ws h. refl, (λ ws h. refl, (λ ws h. refl, (λ ws h. refl, (λ ws h. refl, (λ ws h. refl, tt))))))))))))))
+  flow_plain = (
+    λ ws h. refl,
+    (
+      λ ws h. refl,
+      (
+        λ ws h. refl,
+        (
+          λ ws h. refl,
+          (
+            λ ws h. refl,
+            (
+              λ ws h. refl,
+              (
+                λ ws h. refl,
+                (λ ws h. refl, (λ ws h. refl, (λ ws h. refl, (λ ws h. refl, (λ ws h. refl, (λ ws h. refl, (λ ws h. refl, tt))))))),
+              ),
+            ),
+          ),
+        ),
+      ),
+    ),
+  )
 
   memory_plain : ArePlain o memory_rows
   memory_plain =

@@ -28,7 +28,7 @@ suits insts target d literal =
     (cond (d == decoration.ARRAY_STRIDE) (is_array insts target || is_runtime_array insts target)
     (cond (d == decoration.BUILTIN) (builtin_suits insts target literal)
     (cond (d == decoration.BINDING || d == decoration.DESCRIPTOR_SET)
-      (is_variable_of insts storage_class.UNIFORM target || is_variable_of insts storage_class.STORAGE_BUFFER target)
+    (is_variable_of insts storage_class.UNIFORM target || is_variable_of insts storage_class.STORAGE_BUFFER target)
     (is_one_of memory_decorations d && is_one_of (op.VARIABLE ∷ op.FUNCTION_PARAMETER ∷ []) (kind insts target))))))
 
 -- a member of a struct takes an Offset, and how its memory is used

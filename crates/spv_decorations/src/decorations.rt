@@ -45,9 +45,7 @@ fn add_target(targets: &mut Targets, inst: &View) -> Result<(), NoMemory>
     }
     let key = (word(inst, 1), word(inst, 2));
     if !targets.contains_key(&key) {
-        targets
-            .insert(key, word(inst, 3))
-            .map_err(|_| NoMemory)?;
+        targets.insert(key, word(inst, 3)).map_err(|_| NoMemory)?;
     }
     Ok(())
 }
@@ -61,9 +59,7 @@ fn add_member(members: &mut Members, inst: &View) -> Result<(), NoMemory>
     }
     let key = (word(inst, 1), word(inst, 2), word(inst, 3));
     if !members.contains_key(&key) {
-        members
-            .insert(key, word(inst, 4))
-            .map_err(|_| NoMemory)?;
+        members.insert(key, word(inst, 4)).map_err(|_| NoMemory)?;
     }
     Ok(())
 }

@@ -99,14 +99,15 @@ pub fn global_fits(kinds: &Kinds, decorations: &Decorations, begun: bool, inst: 
     requires { decorations.now ≡ kinds.now }
     ensures { result ≡ globals.global_fits kinds.now begun (seen inst.now) }
 {
-    begun
-        || inst.opcode() != op::VARIABLE
-        || variable_fits(
-            kinds,
-            decorations,
-            word(inst, 1),
-            word(inst, 2),
-            word(inst, 3),
-            words_from(inst, 4),
-        )
+    if begun || inst.opcode() != op::VARIABLE {
+        return true;
+    }
+    variable_fits(
+        kinds,
+        decorations,
+        word(inst, 1),
+        word(inst, 2),
+        word(inst, 3),
+        words_from(inst, 4),
+    )
 }

@@ -8,10 +8,15 @@ use std::test::Fail;
 // First words of instructions: OpDecorate and OpMemberDecorate without and with a literal, OpVariable without and
 // with an initialiser.
 const DECORATE: u32 = 0x0003_0047;
+
 const DECORATE_WITH: u32 = 0x0004_0047;
+
 const MEMBER: u32 = 0x0004_0048;
+
 const MEMBER_WITH: u32 = 0x0005_0048;
+
 const VARIABLE: u32 = 0x0004_003b;
+
 const VARIABLE_WITH: u32 = 0x0005_003b;
 
 // The header; OpCapability Shader; OpMemoryModel Logical GLSL450; OpEntryPoint GLCompute %1 "main".
@@ -173,7 +178,8 @@ const TYPES: [u32; 128] = [
 
 // A variable each of Input, StorageBuffer, Uniform, Private and PushConstant: %41 to %45.
 const VARIABLES: [u32; 20] = [
-    VARIABLE, 19, 41, 1, VARIABLE, 21, 42, 12, VARIABLE, 23, 43, 2, VARIABLE, 26, 44, 6, VARIABLE, 25, 45, 9,
+    VARIABLE, 19, 41, 1, VARIABLE, 21, 42, 12, VARIABLE, 23, 43, 2, VARIABLE, 26, 44, 6, VARIABLE,
+    25, 45, 9,
 ];
 
 // %1 function with the parameter %47, a variable %48 and %54 undefined vector.
@@ -207,6 +213,9 @@ fn module(alloc: Global, decorations: &[u32], variables: &[u32]) -> Result<Optio
     words.extend_from_slice(&TYPES)?;
     words.extend_from_slice(variables)?;
     words.extend_from_slice(&FUNCTION)?;
+    if words.len() > 1000 {
+        return Ok(None);
+    }
     Ok(decode(alloc, &words).ok())
 }
 
@@ -254,17 +263,97 @@ fn decorations_stand_on_targets_that_take_them(rt: HostRuntime) -> Result<(), Fa
         (&[DECORATE_WITH, 6, decoration::ARRAY_STRIDE, 4], false),
         (&[DECORATE_WITH, 12, decoration::ARRAY_STRIDE, 4], false),
         // a built-in of an Input variable
-        (&[DECORATE_WITH, 41, decoration::BUILTIN, builtin::NUM_WORKGROUPS], true),
-        (&[DECORATE_WITH, 44, decoration::BUILTIN, builtin::NUM_WORKGROUPS], false),
-        (&[DECORATE_WITH, 16, decoration::BUILTIN, builtin::NUM_WORKGROUPS], false),
-        (&[DECORATE_WITH, 12, decoration::BUILTIN, builtin::LOCAL_INVOCATION_INDEX], false),
+        (
+            &[
+                DECORATE_WITH,
+                41,
+                decoration::BUILTIN,
+                builtin::NUM_WORKGROUPS,
+            ],
+            true,
+        ),
+        (
+            &[
+                DECORATE_WITH,
+                44,
+                decoration::BUILTIN,
+                builtin::NUM_WORKGROUPS,
+            ],
+            false,
+        ),
+        (
+            &[
+                DECORATE_WITH,
+                16,
+                decoration::BUILTIN,
+                builtin::NUM_WORKGROUPS,
+            ],
+            false,
+        ),
+        (
+            &[
+                DECORATE_WITH,
+                12,
+                decoration::BUILTIN,
+                builtin::LOCAL_INVOCATION_INDEX,
+            ],
+            false,
+        ),
         // the built-in of a constant vector of three integers
-        (&[DECORATE_WITH, 16, decoration::BUILTIN, builtin::WORKGROUP_SIZE], true),
-        (&[DECORATE_WITH, 50, decoration::BUILTIN, builtin::WORKGROUP_SIZE], true),
-        (&[DECORATE_WITH, 17, decoration::BUILTIN, builtin::WORKGROUP_SIZE], true),
-        (&[DECORATE_WITH, 54, decoration::BUILTIN, builtin::WORKGROUP_SIZE], false),
-        (&[DECORATE_WITH, 41, decoration::BUILTIN, builtin::WORKGROUP_SIZE], false),
-        (&[DECORATE_WITH, 9, decoration::BUILTIN, builtin::WORKGROUP_SIZE], false),
+        (
+            &[
+                DECORATE_WITH,
+                16,
+                decoration::BUILTIN,
+                builtin::WORKGROUP_SIZE,
+            ],
+            true,
+        ),
+        (
+            &[
+                DECORATE_WITH,
+                50,
+                decoration::BUILTIN,
+                builtin::WORKGROUP_SIZE,
+            ],
+            true,
+        ),
+        (
+            &[
+                DECORATE_WITH,
+                17,
+                decoration::BUILTIN,
+                builtin::WORKGROUP_SIZE,
+            ],
+            true,
+        ),
+        (
+            &[
+                DECORATE_WITH,
+                54,
+                decoration::BUILTIN,
+                builtin::WORKGROUP_SIZE,
+            ],
+            false,
+        ),
+        (
+            &[
+                DECORATE_WITH,
+                41,
+                decoration::BUILTIN,
+                builtin::WORKGROUP_SIZE,
+            ],
+            false,
+        ),
+        (
+            &[
+                DECORATE_WITH,
+                9,
+                decoration::BUILTIN,
+                builtin::WORKGROUP_SIZE,
+            ],
+            false,
+        ),
         // how a memory is used: variables and parameters
         (&[DECORATE, 42, decoration::RESTRICT], true),
         (&[DECORATE, 42, decoration::ALIASED], true),
@@ -298,7 +387,16 @@ fn decorations_stand_on_targets_that_take_them(rt: HostRuntime) -> Result<(), Fa
         (&[MEMBER, 12, 0, decoration::BLOCK], false),
         (&[MEMBER_WITH, 12, 0, decoration::BINDING, 0], false),
         (&[MEMBER_WITH, 12, 0, decoration::ARRAY_STRIDE, 4], false),
-        (&[MEMBER_WITH, 12, 0, decoration::BUILTIN, builtin::WORKGROUP_ID], false),
+        (
+            &[
+                MEMBER_WITH,
+                12,
+                0,
+                decoration::BUILTIN,
+                builtin::WORKGROUP_ID,
+            ],
+            false,
+        ),
         (&[MEMBER_WITH, 12, 0, decoration::SPEC_ID, 0], false),
     ];
     for (decorations, fits) in cases {
@@ -313,30 +411,104 @@ fn decorations_stand_on_targets_that_take_them(rt: HostRuntime) -> Result<(), Fa
 }
 
 // The decorations of %40, the variable of each case below, and of the structs.
-const INDEX: [u32; 4] = [DECORATE_WITH, 40, decoration::BUILTIN, builtin::LOCAL_INVOCATION_INDEX];
-const GROUP: [u32; 4] = [DECORATE_WITH, 40, decoration::BUILTIN, builtin::WORKGROUP_ID];
-const BLOCKS: [u32; 6] = [DECORATE, 12, decoration::BLOCK, DECORATE, 13, decoration::BLOCK];
+const INDEX: [u32; 4] = [
+    DECORATE_WITH,
+    40,
+    decoration::BUILTIN,
+    builtin::LOCAL_INVOCATION_INDEX,
+];
+
+const GROUP: [u32; 4] = [
+    DECORATE_WITH,
+    40,
+    decoration::BUILTIN,
+    builtin::WORKGROUP_ID,
+];
+
+const BLOCKS: [u32; 6] = [
+    DECORATE,
+    12,
+    decoration::BLOCK,
+    DECORATE,
+    13,
+    decoration::BLOCK,
+];
 
 #[test]
 fn variables_fit_their_storage_classes(rt: HostRuntime) -> Result<(), Fail> {
     let cases: [(&str, &[u32], &[u32], bool); 33] = [
-        ("private", &[], &[VARIABLE, 26, 40, storage_class::PRIVATE], true),
-        ("of Function", &[], &[VARIABLE, 30, 40, storage_class::FUNCTION], false),
-        ("another class", &[], &[VARIABLE, 26, 40, storage_class::WORKGROUP], false),
-        ("no pointer", &[], &[VARIABLE, 5, 40, storage_class::PRIVATE], false),
-        ("input", &GROUP, &[VARIABLE, 19, 40, storage_class::INPUT], true),
-        ("input that is no built-in", &[], &[VARIABLE, 19, 40, storage_class::INPUT], false),
+        (
+            "private",
+            &[],
+            &[VARIABLE, 26, 40, storage_class::PRIVATE],
+            true,
+        ),
+        (
+            "of Function",
+            &[],
+            &[VARIABLE, 30, 40, storage_class::FUNCTION],
+            false,
+        ),
+        (
+            "another class",
+            &[],
+            &[VARIABLE, 26, 40, storage_class::WORKGROUP],
+            false,
+        ),
+        (
+            "no pointer",
+            &[],
+            &[VARIABLE, 5, 40, storage_class::PRIVATE],
+            false,
+        ),
+        (
+            "input",
+            &GROUP,
+            &[VARIABLE, 19, 40, storage_class::INPUT],
+            true,
+        ),
+        (
+            "input that is no built-in",
+            &[],
+            &[VARIABLE, 19, 40, storage_class::INPUT],
+            false,
+        ),
         (
             "input with another decoration",
             &[DECORATE, 40, decoration::RESTRICT],
             &[VARIABLE, 19, 40, storage_class::INPUT],
             false,
         ),
-        ("index", &INDEX, &[VARIABLE, 18, 40, storage_class::INPUT], true),
-        ("index that is a vector", &INDEX, &[VARIABLE, 19, 40, storage_class::INPUT], false),
-        ("group that is an integer", &GROUP, &[VARIABLE, 18, 40, storage_class::INPUT], false),
-        ("group of two", &GROUP, &[VARIABLE, 20, 40, storage_class::INPUT], false),
-        ("group of booleans", &GROUP, &[VARIABLE, 51, 40, storage_class::INPUT], false),
+        (
+            "index",
+            &INDEX,
+            &[VARIABLE, 18, 40, storage_class::INPUT],
+            true,
+        ),
+        (
+            "index that is a vector",
+            &INDEX,
+            &[VARIABLE, 19, 40, storage_class::INPUT],
+            false,
+        ),
+        (
+            "group that is an integer",
+            &GROUP,
+            &[VARIABLE, 18, 40, storage_class::INPUT],
+            false,
+        ),
+        (
+            "group of two",
+            &GROUP,
+            &[VARIABLE, 20, 40, storage_class::INPUT],
+            false,
+        ),
+        (
+            "group of booleans",
+            &GROUP,
+            &[VARIABLE, 51, 40, storage_class::INPUT],
+            false,
+        ),
         (
             "an index first",
             &[
@@ -367,34 +539,114 @@ fn variables_fit_their_storage_classes(rt: HostRuntime) -> Result<(), Fail> {
             &[VARIABLE, 18, 40, storage_class::INPUT],
             false,
         ),
-        ("buffer", &BLOCKS, &[VARIABLE, 21, 40, storage_class::STORAGE_BUFFER], true),
-        ("buffer without Block", &[], &[VARIABLE, 21, 40, storage_class::STORAGE_BUFFER], false),
+        (
+            "buffer",
+            &BLOCKS,
+            &[VARIABLE, 21, 40, storage_class::STORAGE_BUFFER],
+            true,
+        ),
+        (
+            "buffer without Block",
+            &[],
+            &[VARIABLE, 21, 40, storage_class::STORAGE_BUFFER],
+            false,
+        ),
         (
             "buffer with a Block of its own",
             &[DECORATE, 40, decoration::BLOCK],
             &[VARIABLE, 21, 40, storage_class::STORAGE_BUFFER],
             false,
         ),
-        ("buffer of an integer", &BLOCKS, &[VARIABLE, 29, 40, storage_class::STORAGE_BUFFER], false),
-        ("uniform", &BLOCKS, &[VARIABLE, 23, 40, storage_class::UNIFORM], true),
-        ("uniform without Block", &[], &[VARIABLE, 23, 40, storage_class::UNIFORM], false),
-        ("push constant", &BLOCKS, &[VARIABLE, 25, 40, storage_class::PUSH_CONSTANT], true),
+        (
+            "buffer of an integer",
+            &BLOCKS,
+            &[VARIABLE, 29, 40, storage_class::STORAGE_BUFFER],
+            false,
+        ),
+        (
+            "uniform",
+            &BLOCKS,
+            &[VARIABLE, 23, 40, storage_class::UNIFORM],
+            true,
+        ),
+        (
+            "uniform without Block",
+            &[],
+            &[VARIABLE, 23, 40, storage_class::UNIFORM],
+            false,
+        ),
+        (
+            "push constant",
+            &BLOCKS,
+            &[VARIABLE, 25, 40, storage_class::PUSH_CONSTANT],
+            true,
+        ),
         (
             "push constant without Block",
             &[DECORATE, 13, decoration::BLOCK],
             &[VARIABLE, 25, 40, storage_class::PUSH_CONSTANT],
             false,
         ),
-        ("shared struct", &[], &[VARIABLE, 27, 40, storage_class::WORKGROUP], true),
-        ("open buffer", &BLOCKS, &[VARIABLE, 22, 40, storage_class::STORAGE_BUFFER], true),
-        ("open uniform", &BLOCKS, &[VARIABLE, 24, 40, storage_class::UNIFORM], false),
-        ("shared runtime array", &[], &[VARIABLE, 28, 40, storage_class::WORKGROUP], false),
-        ("initialiser", &[], &[VARIABLE_WITH, 26, 40, storage_class::PRIVATE, 9], true),
-        ("initialiser to specialise", &[], &[VARIABLE_WITH, 26, 40, storage_class::PRIVATE, 15], true),
-        ("initialiser of another type", &[], &[VARIABLE_WITH, 26, 40, storage_class::PRIVATE, 16], false),
-        ("initialiser that is a type", &[], &[VARIABLE_WITH, 26, 40, storage_class::PRIVATE, 5], false),
-        ("initialiser that nothing defines", &[], &[VARIABLE_WITH, 26, 40, storage_class::PRIVATE, 59], false),
-        ("shared initialiser", &[], &[VARIABLE_WITH, 31, 40, storage_class::WORKGROUP, 9], false),
+        (
+            "shared struct",
+            &[],
+            &[VARIABLE, 27, 40, storage_class::WORKGROUP],
+            true,
+        ),
+        (
+            "open buffer",
+            &BLOCKS,
+            &[VARIABLE, 22, 40, storage_class::STORAGE_BUFFER],
+            true,
+        ),
+        (
+            "open uniform",
+            &BLOCKS,
+            &[VARIABLE, 24, 40, storage_class::UNIFORM],
+            false,
+        ),
+        (
+            "shared runtime array",
+            &[],
+            &[VARIABLE, 28, 40, storage_class::WORKGROUP],
+            false,
+        ),
+        (
+            "initialiser",
+            &[],
+            &[VARIABLE_WITH, 26, 40, storage_class::PRIVATE, 9],
+            true,
+        ),
+        (
+            "initialiser to specialise",
+            &[],
+            &[VARIABLE_WITH, 26, 40, storage_class::PRIVATE, 15],
+            true,
+        ),
+        (
+            "initialiser of another type",
+            &[],
+            &[VARIABLE_WITH, 26, 40, storage_class::PRIVATE, 16],
+            false,
+        ),
+        (
+            "initialiser that is a type",
+            &[],
+            &[VARIABLE_WITH, 26, 40, storage_class::PRIVATE, 5],
+            false,
+        ),
+        (
+            "initialiser that nothing defines",
+            &[],
+            &[VARIABLE_WITH, 26, 40, storage_class::PRIVATE, 59],
+            false,
+        ),
+        (
+            "shared initialiser",
+            &[],
+            &[VARIABLE_WITH, 31, 40, storage_class::WORKGROUP, 9],
+            false,
+        ),
         (
             "initialiser of a buffer",
             &BLOCKS,
