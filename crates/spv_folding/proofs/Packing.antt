@@ -1,5 +1,5 @@
 -- The words of operands that are built word by word.
-use Rattle.std.proofs.Common.{◌≡◌, ℕ, zero, suc, ◌+◌, ◌≤◌, ◌<◌, List, [], ◌∷◌, length, replicate, slice_index, slice_set, refl, sym, ap, ◌∙◌, arith}
+use Rattle.std.proofs.Common.{◌≡◌, ℕ, zero, suc, ◌≤◌, ◌<◌, List, [], ◌∷◌, length, replicate, slice_index, slice_set, refl, ap, arith}
 use Rattle.std.proofs.lemmas.List.{get_or_past, set_past}
 use Rattle.spv_value.specs.declared.words.Operand.{Operand}
 use Rattle.spv_value.specs.Words.{padded, words_of}
