@@ -1,11 +1,11 @@
 -- Where the parts of a packed composite lie, and what is extracted and inserted there.
-use Rattle.std.proofs.Common.{◌≡◌, ℕ, zero, suc, ◌+◌, ◌-◌, ◌*◌, ◌≤◌, ◌<◌, ◌==◌, Bool, true, false, cond, nat_lt, List, [], ◌∷◌, ◌++◌, Option, Some, None, length, map, take, drop, replicate, slice_get, slice_index, slice_index_or, slice_set, IfSome, option_map, refl, sym, ap, ap₂, ◌∙◌, subst, arith, inl, inr, add_assoc, append_assoc}
+use Rattle.std.proofs.Common.{◌≡◌, ℕ, zero, suc, ◌+◌, ◌-◌, ◌*◌, ◌≤◌, ◌<◌, Bool, true, false, cond, nat_lt, List, [], ◌∷◌, ◌++◌, Option, Some, None, length, map, take, drop, replicate, slice_get, slice_index, slice_set, IfSome, option_map, refl, sym, ap, ap₂, ◌∙◌, subst, arith, add_assoc, append_assoc}
 use Rattle.std.proofs.Math.Nat.{mul-le-mul_right, suc-mul}
 use Rattle.std.proofs.lemmas.List.{length-append, length-map, length-replicate, length-take-le, length-drop, take_all, drop_at, drop-drop, drop_more, take-append-le, drop-append-le, take-replicate, drop-replicate, set_split}
-use Rattle.std.proofs.lemmas.Bool.{lt-ltb, le-ltb, ltb-true, ltb-false}
+use Rattle.std.proofs.lemmas.Bool.{lt-ltb, le-ltb, ltb-true}
 use Rattle.std.specs.List.{concat, All}
 use Rattle.spv_meaning.specs.Types.{DataType, Void, Boolean, Integer, Vector, Array, RuntimeArray, Struct, Members, NoMember, Member, cells, member_cells, in_words}
-use Rattle.spv_meaning.specs.Parts.{Part, part, packed_part, and_then, element, member, room}
+use Rattle.spv_meaning.specs.Parts.{Part, part, packed_part, and_then, element, member}
 use Rattle.spv_meaning.specs.Computations.{extracted, inserted, shuffled, whole_part}
 use Rattle.spv_folding.specs.Folding.{member_types, AreSized}
 
@@ -251,11 +251,66 @@ inserted_sized : (object ws : List ℕ) (o : Option Part) → IsWithin (length w
 inserted_sized object ws None within sized = refl
 inserted_sized object ws (Some p) within sized =
     let front : p.first ≤ length ws = omega arith in
-    omega (arith, length-append (take p.first ws) (object ++ drop (p.first + cells p.type) ws), length-take-le p.first ws front,
-    length-append object (drop (p.first + cells p.type) ws), length-drop (p.first + cells p.type) ws)
+    omega (
+      arith,
+      length-append (take p.first ws) (object ++ drop (p.first + cells p.type) ws),
+      length-take-le p.first ws front,
+      length-append object (drop (p.first + cells p.type) ws),
+      length-drop (p.first + cells p.type) ws,
+    )
 
 pub insert_sized : (u : DataType) (literals object ws : List ℕ) → length ws ≡ cells u → IfSome (packed_part literals (whole_part u)) (λ p. cells p.type ≡ length object)
     → length (inserted object ws (packed_part literals (whole_part u))) ≡ length ws
 insert_sized u literals object ws whole sized =
     let P : ℕ → Type 0 = λ k. IsWithin k (packed_part literals (whole_part u)) in
     inserted_sized object ws (packed_part literals (whole_part u)) (subst P (sym whole) (whole_within literals u)) sized
+
+-- ---- the type that literals lead to, literal by literal
+
+abbrev HasType : (DataType → Type 0) → Option Part → Type 0
+HasType P o = IfSome o (λ p. P p.type)
+
+type_moved : (P : DataType → Type 0) (n : ℕ) (o : Option Part) → HasType P o → HasType P (option_map (moved n) o)
+type_moved P n None h = tt
+type_moved P n (Some p) h = h
+
+-- it does not depend on where the part begins
+type_anywhere : (P : DataType → Type 0) (literals : List ℕ) (first : ℕ) (u : DataType) → HasType P (packed_part literals (whole_part u))
+    → HasType P (packed_part literals (record { first = first; type = u }))
+type_anywhere P literals first u h =
+    let Q : Option Part → Type 0 = HasType P in
+    let R : ℕ → Type 0 = λ k. HasType P (packed_part literals (record { first = k; type = u })) in
+    let same : first + 0 ≡ first = omega arith in
+    subst R same (subst Q (sym (packed_moved literals first (whole_part u))) (type_moved P first (packed_part literals (whole_part u)) h))
+
+-- no literal leads to the whole
+pub type_here : (P : DataType → Type 0) (u : DataType) → P u → IfSome (packed_part [] (whole_part u)) (λ p. P p.type)
+type_here P u h = h
+
+member_type_at : (P : DataType → Type 0) (u : DataType) (rest : List ℕ) (ms : Members) (packed j : ℕ)
+    → slice_get (member_types ms) j ≡ Some u → HasType P (packed_part rest (whole_part u)) → HasType P (and_then (member false packed ms 0 j) (packed_part rest))
+member_type_at P u rest NoMember packed j a h = tt
+member_type_at P u rest (Member offset volatile v ms) packed zero a h =
+    let Q : DataType → Type 0 = λ t. HasType P (packed_part rest (record { first = 0 + packed; type = t })) in
+    let type : u ≡ v = cc in
+    subst Q type (type_anywhere P rest (0 + packed) u h)
+member_type_at P u rest (Member offset volatile v ms) packed (suc j) a h = member_type_at P u rest ms (packed + cells v) j a h
+
+-- a literal into a struct leads to where the rest leads in that member
+pub type_in_member : (P : DataType → Type 0) (u : DataType) (rest : List ℕ) (ms : Members) (j : ℕ) → slice_get (member_types ms) j ≡ Some u
+    → IfSome (packed_part rest (whole_part u)) (λ p. P p.type) → IfSome (packed_part (j ∷ rest) (whole_part (Struct ms))) (λ p. P p.type)
+type_in_member P u rest ms j a h = member_type_at P u rest ms 0 j a h
+
+element_type_at : (P : DataType → Type 0) (u : DataType) (rest : List ℕ) (first : ℕ) (b : Bool) → HasType P (packed_part rest (whole_part u))
+    → HasType P (and_then (cond b (Some (record { first = first; type = u })) None) (packed_part rest))
+element_type_at P u rest first true h = type_anywhere P rest first u h
+element_type_at P u rest first false h = tt
+
+-- a literal into an array or a vector leads to where the rest leads in an element
+pub type_in_element : (P : DataType → Type 0) (u : DataType) (rest : List ℕ) (stride : Option ℕ) (n j : ℕ)
+    → IfSome (packed_part rest (whole_part u)) (λ p. P p.type) → IfSome (packed_part (j ∷ rest) (whole_part (Array stride n u))) (λ p. P p.type)
+type_in_element P u rest stride n j h = element_type_at P u rest (0 + j * cells u) (nat_lt j n) h
+
+pub type_in_component : (P : DataType → Type 0) (u : DataType) (rest : List ℕ) (n j : ℕ)
+    → IfSome (packed_part rest (whole_part u)) (λ p. P p.type) → IfSome (packed_part (j ∷ rest) (whole_part (Vector n u))) (λ p. P p.type)
+type_in_component P u rest n j h = element_type_at P u rest (0 + j * cells u) (nat_lt j n) h

@@ -1,14 +1,14 @@
 -- Each operation that OpSpecConstantOp may name takes operands of its form, and its result has as many words as the form says.
-use Rattle.std.proofs.Common.{◌≡◌, ℕ, zero, suc, ◌+◌, ◌≤◌, ◌<◌, ◌==◌, ◌&&◌, Bool, true, false, cond, nat_lt, nat_eq, not, if◌then◌else◌, List, [], ◌∷◌, Option, Some, None, length, map, slice_index, slice_index_or, refl, sym, ap, ◌∙◌, subst, arith, inl, inr, ◌⊎◌}
+use Rattle.std.proofs.Common.{◌≡◌, ℕ, zero, suc, ◌≤◌, ◌<◌, ◌&&◌, Bool, true, false, nat_lt, nat_eq, if◌then◌else◌, List, [], ◌∷◌, Option, Some, length, map, slice_index, refl, sym, ap, ◌∙◌, subst, arith, inl, inr, ◌⊎◌}
 use Rattle.std.proofs.lemmas.List.{length-map}
 use Rattle.std.proofs.lemmas.Bool.{lt-ltb}
 use Rattle.std.proofs.lemmas.Bool.Decides.{eqb_tells}
 use Rattle.std.specs.Int.{from_bool}
-use Rattle.std.specs.List.{list_all, list_any}
+use Rattle.std.specs.List.{list_all}
 use Rattle.std.specs.Map.{lookup}
 use Rattle.spv_value.specs.Bits.{zip_with}
 use Rattle.spv_value.specs.Compare.{i_equal, i_not_equal, u_less_than, u_less_than_equal, u_greater_than, u_greater_than_equal, s_less_than, s_less_than_equal, s_greater_than, s_greater_than_equal, logical_not, logical_and, logical_or, is_one, select}
-use Rattle.spv_value.specs.Eval.{Rule, Ints1, Ints2, Ints3, Pair, Extract, Insert, Bools1, Bools2, Vector, Choice, operand, AreBooleanWords, AreAlike, AreBooleans, IsChoice, SuitsRule, zip_with3, choice, rule_at, rule_result, op_rules, CanEval, Eval}
+use Rattle.spv_value.specs.Eval.{Rule, Ints1, Ints2, Bools1, Bools2, Choice, operand, AreBooleanWords, AreAlike, AreBooleans, IsChoice, SuitsRule, zip_with3, choice, rule_at, rule_result, op_rules, CanEval, Eval}
 use Rattle.spv_typing.specs.declared.operations.Form.{Form}
 use Rattle.spv_typing.specs.declared.operations.Form.TheVariants.{Ints, Bools, Compares, Selects, Shuffles, Extracts, Inserts}
 use Rattle.spv_typing.specs.Operations.{spec_operations}
@@ -113,29 +113,111 @@ AllFit (row ∷ rows) = Fits row.1 (rule_at row.0 (op_rules 32)) × AllFit rows
 -- by row: numbers, booleans, comparisons, and the others
 operations_fit : AllFit spec_operations
 unfolding op_rules i_equal i_not_equal u_less_than u_less_than_equal u_greater_than u_greater_than_equal s_less_than s_less_than_equal s_greater_than s_greater_than_equal logical_not logical_and logical_or
-operations_fit =
-    (refl, (refl,
-    (refl, (refl, (refl,
-    (refl, (refl, (refl, (refl, (refl,
-    (refl, (refl, (refl,
-    (refl, (refl, (refl,
-    ((refl, λ a. two _),
-    ((refl, λ a b. two _), ((refl, λ a b. two _), ((refl, λ a b. two _), ((refl, λ a b. two _),
-    ((λ a b. two _), ((λ a b. two _),
-    ((λ a b. two _), ((λ a b. two _), ((λ a b. two _), ((λ a b. two _),
-    ((λ a b. two _), ((λ a b. two _), ((λ a b. two _), ((λ a b. two _),
-    (tt, (tt, (tt, (tt, tt)))))))))))))))))))))))))))))))))))
+operations_fit = (
+  refl,
+  (
+    refl,
+    (
+      refl,
+      (
+        refl,
+        (
+          refl,
+          (
+            refl,
+            (
+              refl,
+              (
+                refl,
+                (
+                  refl,
+                  (
+                    refl,
+                    (
+                      refl,
+                      (
+                        refl,
+                        (
+                          refl,
+                          (
+                            refl,
+                            (
+                              refl,
+                              (
+                                refl,
+                                (
+                                  (refl, λ a. two _),
+                                  (
+                                    (refl, λ a b. two _),
+                                    (
+                                      (refl, λ a b. two _),
+                                      (
+                                        (refl, λ a b. two _),
+                                        (
+                                          (refl, λ a b. two _),
+                                          (
+                                            (λ a b. two _),
+                                            (
+                                              (λ a b. two _),
+                                              (
+                                                (λ a b. two _),
+                                                (
+                                                  (λ a b. two _),
+                                                  (
+                                                    (λ a b. two _),
+                                                    (
+                                                      (λ a b. two _),
+                                                      (
+                                                        (λ a b. two _),
+                                                        (
+                                                          (λ a b. two _),
+                                                          (
+                                                            (λ a b. two _),
+                                                            (
+                                                              (λ a b. two _),
+                                                              (tt, (tt, (tt, (tt, tt)))),
+                                                            ),
+                                                          ),
+                                                        ),
+                                                      ),
+                                                    ),
+                                                  ),
+                                                ),
+                                              ),
+                                            ),
+                                          ),
+                                        ),
+                                      ),
+                                    ),
+                                  ),
+                                ),
+                              ),
+                            ),
+                          ),
+                        ),
+                      ),
+                    ),
+                  ),
+                ),
+              ),
+            ),
+          ),
+        ),
+      ),
+    ),
+  ),
+)
 
 fits_in : (rows : List (ℕ × Form)) (opcode : ℕ) (form : Form) → AllFit rows → lookup (nat_eq opcode) rows ≡ Some form → Fits form (rule_at opcode (op_rules 32))
 fits_in [] opcode form all e = absurd (cc)
 fits_in (row ∷ rows) opcode form all e =
     elim (eqb_tells opcode row.0) [
       | inl here ↦
-        let P : Form → Type 0 = λ f. Fits f (rule_at opcode (op_rules 32)) in
-        let Q : ℕ → Type 0 = λ k. Fits row.1 (rule_at k (op_rules 32)) in
-        let found : Some row.1 ≡ Some form = rw here.0 at e in
-        let same : row.1 ≡ form = cc in
-        subst P same (subst Q (sym here.1) all.0)
+          let P : Form → Type 0 = λ f. Fits f (rule_at opcode (op_rules 32)) in
+          let Q : ℕ → Type 0 = λ k. Fits row.1 (rule_at k (op_rules 32)) in
+          let found : Some row.1 ≡ Some form = rw here.0 at e in
+          let same : row.1 ≡ form = cc in
+          subst P same (subst Q (sym here.1) all.0)
       | inr there ↦ fits_in rows opcode form all.1 (rw there.0 at e)
     ]
 

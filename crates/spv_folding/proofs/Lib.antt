@@ -1,3 +1,4 @@
 pub mod Packing
 pub mod Forms
 pub mod Extraction
+pub mod Shuffling

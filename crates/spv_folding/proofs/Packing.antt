@@ -1,14 +1,17 @@
 -- The words of operands that are built word by word.
-use Rattle.std.proofs.Common.{◌≡◌, ℕ, zero, suc, ◌+◌, ◌≤◌, ◌<◌, List, [], ◌∷◌, length, replicate, slice_index, slice_set, refl, sym, ap, ◌∙◌, arith}
+use Rattle.std.proofs.Common.{◌≡◌, ℕ, zero, suc, ◌≤◌, ◌<◌, List, [], ◌∷◌, length, replicate, slice_index, slice_set, refl, ap, arith}
 use Rattle.std.proofs.lemmas.List.{get_or_past, set_past}
 use Rattle.spv_value.specs.declared.words.Operand.{Operand}
 use Rattle.spv_value.specs.Words.{padded, words_of}
 use Rattle.spv_value.proofs.WordLists.{length-words_of}
 
-pub padded_zeros : (n m : ℕ) → padded n (replicate m 0) ≡ replicate n 0
+padded_zeros : (n m : ℕ) → padded n (replicate m 0) ≡ replicate n 0
 padded_zeros zero m = refl
 padded_zeros (suc n) zero = ap (λ ws. 0 ∷ ws) (padded_zeros n zero)
 padded_zeros (suc n) (suc m) = ap (λ ws. 0 ∷ ws) (padded_zeros n m)
+
+pub four_zeros : (n : ℕ) → padded n (0 ∷ 0 ∷ 0 ∷ 0 ∷ []) ≡ replicate n 0
+four_zeros n = padded_zeros n 4
 
 index_padded : (n : ℕ) (ws : List ℕ) (i : ℕ) → i < n → slice_index (padded n ws) i ≡ slice_index ws i
 index_padded zero ws i h = absurd (omega arith)
@@ -34,17 +37,17 @@ padded_four (a ∷ b ∷ c ∷ d ∷ []) h = refl
 padded_four (a ∷ b ∷ c ∷ d ∷ e ∷ rest) h = absurd (omega arith)
 
 -- a word that counts, and one past those that count
-pub index-words_of : (x : Operand) (i : ℕ) → i < x.len → slice_index (words_of x) i ≡ slice_index (x.w0 ∷ x.w1 ∷ x.w2 ∷ x.w3 ∷ []) i
+pub component_of : (x : Operand) (i : ℕ) → i < x.len → slice_index (words_of x) i ≡ slice_index (x.w0 ∷ x.w1 ∷ x.w2 ∷ x.w3 ∷ []) i
 unfolding words_of
-index-words_of x i h = index_padded x.len (x.w0 ∷ x.w1 ∷ x.w2 ∷ x.w3 ∷ []) i h
+component_of x i h = index_padded x.len (x.w0 ∷ x.w1 ∷ x.w2 ∷ x.w3 ∷ []) i h
 
-pub past-words_of : (x : Operand) (i : ℕ) → x.len ≤ i → slice_index (words_of x) i ≡ 0
-past-words_of x i h = get_or_past (words_of x) i 0 (omega (arith, length-words_of x))
+pub past_component : (x : Operand) (i : ℕ) → x.len ≤ i → slice_index (words_of x) i ≡ 0
+past_component x i h = get_or_past (words_of x) i 0 (omega (arith, length-words_of x))
 
 -- one word set, and one past those that count
-pub set-words_of : (x : Operand) (i w : ℕ) → i < 4 → slice_set (words_of x) i w ≡ padded x.len (slice_set (x.w0 ∷ x.w1 ∷ x.w2 ∷ x.w3 ∷ []) i w)
+pub set_component : (x : Operand) (i w : ℕ) → i < 4 → slice_set (words_of x) i w ≡ padded x.len (slice_set (x.w0 ∷ x.w1 ∷ x.w2 ∷ x.w3 ∷ []) i w)
 unfolding words_of
-set-words_of x i w h = set_padded x.len (x.w0 ∷ x.w1 ∷ x.w2 ∷ x.w3 ∷ []) i w h
+set_component x i w h = set_padded x.len (x.w0 ∷ x.w1 ∷ x.w2 ∷ x.w3 ∷ []) i w h
 
-pub set_past-words_of : (x : Operand) (i w : ℕ) → length (words_of x) ≤ i → slice_set (words_of x) i w ≡ words_of x
-set_past-words_of x i w h = set_past (words_of x) i w h
+pub set_past_component : (x : Operand) (i w : ℕ) → length (words_of x) ≤ i → slice_set (words_of x) i w ≡ words_of x
+set_past_component x i w h = set_past (words_of x) i w h

@@ -1,9 +1,11 @@
 //! What OpSpecConstantOp computes of constants that are scalars and vectors.
 #![tactic(auto)]
 
-pub mod operands;
-pub mod operations;
+mod operands;
+mod operations;
 
 pub use operands::{component, of_word, of_words, with_component, zeros};
 pub use operations::{evaluate, shuffle};
 
+#[cfg(test)]
+mod tests;

@@ -12,6 +12,7 @@ pub fn word_at(words: &[u32], index: usize) -> u32
 }
 
 /// An operand of these words.
+#[tactic(auto, using(crate::proofs::Packing::padded_four), unfolding(spv_value::specs::Words::words_of))]
 pub fn of_words(words: &[u32]) -> Operand
     requires { length words.now ≤ 4 }
     ensures { words_of result ≡ words.now }
@@ -26,6 +27,7 @@ pub fn of_words(words: &[u32]) -> Operand
 }
 
 /// A scalar.
+#[tactic(auto, unfolding(spv_value::specs::Words::words_of))]
 pub fn of_word(word: u32) -> Operand
     ensures { words_of result ≡ word ∷ [] }
 {
@@ -39,6 +41,7 @@ pub fn of_word(word: u32) -> Operand
 }
 
 /// So many zeros.
+#[tactic(auto, using(crate::proofs::Packing::four_zeros), unfolding(spv_value::specs::Words::words_of))]
 pub fn zeros(count: u8) -> Operand
     ensures { words_of result ≡ replicate count 0 }
 {
@@ -52,6 +55,7 @@ pub fn zeros(count: u8) -> Operand
 }
 
 /// A component of a vector, counted from 0; 0 past its end.
+#[tactic(auto, using(crate::proofs::Packing::component_of, crate::proofs::Packing::past_component))]
 pub fn component(vector: &Operand, index: usize) -> u32
     ensures { result ≡ slice_index (words_of vector.now) index }
 {
@@ -68,6 +72,7 @@ pub fn component(vector: &Operand, index: usize) -> u32
 }
 
 /// The vector with one component, counted from 0, another. An index past its end changes nothing.
+#[tactic(auto, using(crate::proofs::Packing::set_component, crate::proofs::Packing::set_past_component), unfolding(spv_value::specs::Words::words_of))]
 pub fn with_component(vector: &Operand, index: usize, word: u32) -> Operand
     requires { length (words_of vector.now) ≤ 4 }
     ensures { words_of result ≡ slice_set (words_of vector.now) index word }
@@ -94,6 +99,7 @@ pub fn with_component(vector: &Operand, index: usize, word: u32) -> Operand
 }
 
 // The first four words of an answer, where it has no more.
+#[tactic(auto, using(crate::proofs::Packing::padded_four), unfolding(spv_value::specs::Words::words_of, spv_value::specs::Words::answered))]
 pub fn of_answer(answer: Answered) -> Operand
     ensures { (ws : List ℕ) → length ws ≤ 4 → answer ≡ answered ws → words_of result ≡ ws }
 {

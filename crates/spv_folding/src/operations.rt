@@ -20,6 +20,7 @@ pub fn evaluate(opcode: u16, input: &[Operand]) -> Operand
 }
 
 // The component that a literal picks of two vectors, one after the other; 0 past their end.
+#[tactic(auto, using(crate::proofs::Shuffling::picks_first, crate::proofs::Shuffling::picks_second))]
 fn picked(a: &Operand, b: &Operand, literal: u32) -> u32
     ensures { result ≡ shuffled (words_of a.now ++ words_of b.now) literal }
 {
