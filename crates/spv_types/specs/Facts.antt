@@ -2,7 +2,7 @@
 use Rattle.std.specs.Prelude.{◌≡◌, ℕ, min, ◌^◌, ◌≤◌, Bool, true, false, cond, nat_lt, Option, Some, None}
 use Rattle.spv_meaning.specs.Types.{DataType, Void, Boolean, Integer, Vector, Array, RuntimeArray, Struct, cells}
 use Rattle.spv_types.specs.declared.facts.TypeFacts.{TypeFacts}
-use Rattle.spv_types.specs.Depth.{depth, is_laid_out}
+use Rattle.spv_declarations.specs.Depth.{depth, is_laid_out}
 
 -- a number, where 64 bits have room for it
 abbrev pub in_64_bits : ℕ → Option ℕ

@@ -1,8 +1,3 @@
-pub mod Depth
-pub mod Declarations
-pub mod Constants
-pub mod Broken
-pub mod Sound
 pub mod Facts
 pub mod Meanings
 pub mod Steps

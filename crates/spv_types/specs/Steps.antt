@@ -8,11 +8,11 @@ use Rattle.spv_ids.specs.Ids.{word_of, names_unknown}
 use Rattle.spv_typing.specs.Kinds.{is_one_of, type_of}
 use Rattle.spv_typing.specs.Types.{type_fits}
 use Rattle.spv_typing.specs.Operations.{spec_op_fits}
-use Rattle.spv_types.specs.Constants.{constant_fits}
-use Rattle.spv_types.specs.Declarations.{Declared, declared_before, says, entry, is_specialised}
+use Rattle.spv_declarations.specs.Constants.{constant_fits}
+use Rattle.spv_declarations.specs.Declarations.{Declared, declared_before, says, entry, is_specialised}
 use Rattle.spv_types.specs.Facts.{in_64_bits}
 use Rattle.spv_types.specs.Meanings.{IsValue, StandsFor}
-use Rattle.spv_types.specs.Sound.{AreInstructions, Unbroken}
+use Rattle.spv_declarations.specs.Sound.{AreInstructions, Unbroken}
 use Rattle.spv_types.specs.declared.meaning.Constant.{Constant}
 use Rattle.spv_types.specs.declared.meaning.Kept.{Kept}
 

@@ -1,7 +1,7 @@
 ghost use Rattle.std.specs.Prelude.{◌≡◌, ℕ, ◌*◌, ◌+◌, min};
 ghost use Rattle.std.specs.Option.{option_map};
 ghost use Rattle.spv_meaning.specs.Types.{DataType, Void, Boolean, Integer, Vector, Array, RuntimeArray};
-ghost use Rattle.spv_types.specs.Depth.{is_offset as offset_in, is_stride as stride_in};
+ghost use Rattle.spv_declarations.specs.Depth.{is_offset as offset_in, is_stride as stride_in};
 ghost use Rattle.spv_types.specs.Facts.{in_64_bits, facts};
 
 /// Deeper than a type may nest.

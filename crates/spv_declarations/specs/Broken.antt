@@ -13,9 +13,9 @@ use Rattle.spv_typing.specs.Types.{type_fits}
 use Rattle.spv_typing.specs.Operations.{spec_op_fits}
 use Rattle.spv_decorations.specs.Targets.{decoration_fits}
 use Rattle.spv_decorations.specs.Globals.{global_fits}
-use Rattle.spv_types.specs.Constants.{constant_fits}
-use Rattle.spv_types.specs.Declarations.{Declared, nothing_declared, declare, says, entry}
-use Rattle.spv_types.specs.Depth.{depth, is_laid_out}
+use Rattle.spv_declarations.specs.Constants.{constant_fits}
+use Rattle.spv_declarations.specs.Declarations.{Declared, nothing_declared, declare, says, entry}
+use Rattle.spv_declarations.specs.Depth.{depth, is_laid_out}
 
 -- a type nests at most 255 deep; everything else passes
 abbrev pub depth_fits : Option (ℕ × Meaning) → Bool

@@ -8,8 +8,8 @@ use Rattle.spv_ids.specs.Ids.{is_defined_before, word_of}
 use Rattle.spv_typing.specs.Kinds.{is_bool, is_int, is_vector, is_array, is_runtime_array, is_struct, is_constant, type_of, component, component_count, element, length_id, members}
 use Rattle.spv_typing.specs.declared.shapes.Shape.{Shape}
 use Rattle.spv_typing.specs.Operations.{shape}
-use Rattle.spv_types.specs.Broken.{rules_at}
-use Rattle.spv_types.specs.Declarations.{Declared, declared_before, says, entry}
+use Rattle.spv_declarations.specs.Broken.{rules_at}
+use Rattle.spv_declarations.specs.Declarations.{Declared, declared_before, says, entry}
 
 -- each has the words and parts of an instruction
 abbrev pub AreInstructions : List Instruction → Type 0

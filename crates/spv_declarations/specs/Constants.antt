@@ -5,7 +5,7 @@ use Rattle.spv_opcodes.specs.declared.op.TheConstants as op
 use Rattle.spv_module.specs.Instruction.{Instruction, opcode}
 use Rattle.spv_meaning.specs.Constants.{length_at}
 use Rattle.spv_typing.specs.Kinds.{is_one_of, is_bool, is_int, is_vector, is_array, is_struct, is_closed, is_spec, component, component_count, element, length_id, members, has_type}
-use Rattle.spv_types.specs.Declarations.{Declared}
+use Rattle.spv_declarations.specs.Declarations.{Declared}
 
 -- constituents of these types, one each
 abbrev pub are_of : List Instruction → (types constituents : List ℕ) → Bool

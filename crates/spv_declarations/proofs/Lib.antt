@@ -1,0 +1,12 @@
+pub mod Parts
+pub mod Defining
+pub mod Unbroken
+pub mod Tables
+pub mod Meanings
+pub mod Naming
+pub mod Sites
+pub mod SoundTypes
+pub mod Operations
+pub mod Declares
+pub mod Words
+pub mod SoundConstants

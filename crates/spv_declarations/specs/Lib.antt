@@ -1,0 +1,5 @@
+pub mod Depth
+pub mod Declarations
+pub mod Constants
+pub mod Broken
+pub mod Sound
