@@ -3,6 +3,7 @@
 
 pub mod facts;
 pub mod meaning;
+mod constants;
 mod meanings;
 mod words;
 
