@@ -91,7 +91,8 @@ set_two [] j w h k = refl
 set_two (x ∷ xs) zero w h k = cons_two w xs h (rest_two x xs k)
 set_two (x ∷ xs) (suc j) w h k = cons_two x (slice_set xs j w) (first_two x xs k) (set_two xs j w h (rest_two x xs k))
 
-pub insert_boolean : (object ws : List ℕ) (j : ℕ) → AreBooleanWords object → AreBooleanWords ws → AreBooleanWords (slice_set ws j (slice_index object 0))
+pub insert_boolean : (object ws : List ℕ) (j : ℕ) → AreBooleanWords object → AreBooleanWords ws
+    → AreBooleanWords (slice_set ws j (slice_index object 0))
 insert_boolean object ws j h k = set_two ws j (slice_index object 0) (index_two object 0 h) k
 
 picked_two : (b : Bool) (x : ℕ) → x < 2 → (if b then 0 else x) < 2

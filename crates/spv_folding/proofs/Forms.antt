@@ -64,7 +64,8 @@ operations_fit : AllFit spec_operations
 unfolding op_rules i_equal i_not_equal u_less_than u_less_than_equal u_greater_than u_greater_than_equal s_less_than s_less_than_equal s_greater_than s_greater_than_equal logical_not logical_and logical_or
 operations_fit = search (rules, two)
 
-fits_in : (rows : List (ℕ × Form)) (opcode : ℕ) (form : Form) → AllFit rows → lookup (nat_eq opcode) rows ≡ Some form → Fits form (rule_at opcode (op_rules 32))
+fits_in : (rows : List (ℕ × Form)) (opcode : ℕ) (form : Form) → AllFit rows → lookup (nat_eq opcode) rows ≡ Some form
+    → Fits form (rule_at opcode (op_rules 32))
 fits_in [] opcode form all e = absurd (cc)
 fits_in (row ∷ rows) opcode form all e =
     elim (eqb_tells opcode row.0) [
@@ -155,13 +156,15 @@ booleans form rule wss fits gives = absurd fits
 -- ---- the operations
 
 -- an operation takes operands of its form
-pub form_can_eval : (opcode : ℕ) (form : Form) (c : ℕ) (wss : List (List ℕ)) → lookup (nat_eq opcode) spec_operations ≡ Some form → AreOperands form c wss
+pub form_can_eval : (opcode : ℕ) (form : Form) (c : ℕ) (wss : List (List ℕ)) → lookup (nat_eq opcode) spec_operations ≡ Some form
+    → AreOperands form c wss
     → CanEval 32 opcode wss
 unfolding CanEval
 form_can_eval opcode form c wss e all = suits form (rule_at opcode (op_rules 32)) c wss (rule_fits opcode form e) all
 
 -- the result has c words
-pub eval_sized : (opcode : ℕ) (form : Form) (c : ℕ) (wss : List (List ℕ)) → lookup (nat_eq opcode) spec_operations ≡ Some form → AreOperands form c wss
+pub eval_sized : (opcode : ℕ) (form : Form) (c : ℕ) (wss : List (List ℕ)) → lookup (nat_eq opcode) spec_operations ≡ Some form
+    → AreOperands form c wss
     → length (Eval 32 opcode wss) ≡ c
 unfolding Eval
 eval_sized opcode form c wss e all = sized form (rule_at opcode (op_rules 32)) c wss (rule_fits opcode form e) all
