@@ -1,9 +1,9 @@
 -- What an unbroken declaration declares is new: it has no meaning so far, and is no Specialised constant.
-use Rattle.std.proofs.Common.{◌≡◌, ℕ, zero, suc, ◌+◌, ◌⊎◌, inl, inr, Bool, true, false, cond, not, ◌==◌, ◌&&◌, ◌||◌, List, [], ◌∷◌, ◌++◌, length, take, drop, Option, Some, None, refl, sym, ap, subst, ◌∙◌}
+use Rattle.std.proofs.Common.{◌≡◌, ℕ, zero, suc, Bool, true, false, cond, not, ◌&&◌, ◌||◌, List, [], ◌∷◌, ◌++◌, drop, Option, Some, None, refl, sym, ap, subst, ◌∙◌}
 use Rattle.std.specs.Prelude.{nat_eq}
 use Rattle.std.specs.Option.{is_some}
 use Rattle.std.specs.List.{list_any, slice_get, slice_index}
-use Rattle.std.proofs.lemmas.Bool.{eqb-true, and_parts, or_cases, or_from}
+use Rattle.std.proofs.lemmas.Bool.{eqb-true, and_parts, or_from}
 use Rattle.std.proofs.lemmas.List.Folds.{list_any-append}
 use Rattle.spv_opcodes.specs.declared.op.TheConstants as op
 use Rattle.spv_opcodes.specs.declared.decoration.TheConstants as decoration
@@ -13,12 +13,12 @@ use Rattle.spv_module.specs.Instruction.{Instruction, IsInstruction, opcode, rol
 use Rattle.spv_meaning.specs.Statements.{Statement, is_silent_opcode}
 use Rattle.spv_meaning.specs.Types.{DataType}
 use Rattle.spv_meaning.specs.Constants.{Table, Meaning, IsConstant, meaning, type_at, words_in, decorated}
-use Rattle.spv_ids.specs.Ids.{defines, is_defined_before, words_with}
+use Rattle.spv_ids.specs.Ids.{is_defined_before, words_with}
 use Rattle.spv_typing.specs.Kinds.{is_one_of}
 use Rattle.spv_typing.specs.Operations.{spec_op_fits}
 use Rattle.spv_declarations.specs.Broken.{rules_at}
-use Rattle.spv_declarations.specs.Declarations.{Declared, nothing_declared, declared_before, says, entry, is_specialised}
-use Rattle.spv_declarations.specs.Sound.{AreInstructions, Unbroken, IsBefore, table_before}
+use Rattle.spv_declarations.specs.Declarations.{Declared, declared_before, says, entry, is_specialised}
+use Rattle.spv_declarations.specs.Sound.{AreInstructions, table_before}
 use Rattle.spv_declarations.proofs.Parts.{first_typed, row_test, defined-typed}
 use Rattle.spv_declarations.proofs.Defining.{entry-by}
 use Rattle.spv_declarations.proofs.Operations.{fitting-form, operation-entry, operation_meaning}
@@ -84,8 +84,8 @@ specialised_step insts whole k id (Some i) at new h =
     let d = declared_before insts k in
     ap (λ (d : Declared). is_one_of d.specialised id) (declared-more insts k i at)
     ∙ added_other id (slice_index i.words 2) d.specialised (not d.begun && is_specialised (says insts) d.specialised i)
-      (λ e. sym (defines_result i id (slice_index i.words 2) (specialised-result (says insts) d.specialised i (whole k i at) (and_parts (not d.begun) (is_specialised (says insts) d.specialised i) e).1))
-        ∙ not_defined_here insts k id i at new) h
+    (λ e. sym (defines_result i id (slice_index i.words 2) (specialised-result (says insts) d.specialised i (whole k i at) (and_parts (not d.begun) (is_specialised (says insts) d.specialised i) e).1))
+    ∙ not_defined_here insts k id i at new) h
 
 -- an id that nothing defines so far is none; induction on the instructions
 pub not_specialised : (insts : List Instruction) → AreInstructions insts → (k id : ℕ) → is_defined_before insts k id ≡ false → is_one_of (declared_before insts k).specialised id ≡ false
@@ -127,12 +127,16 @@ operation_stands insts all table i is_o fits whole =
 
 pub specialised-entry : (insts : List Instruction) (all : List Statement) (table : Table) (specialised : List ℕ) (i : Instruction) → IsInstruction i.words (roles i) → spec_op_fits insts i ≡ true → is_specialised all specialised i ≡ true → DeclaresConstant all table i
 specialised-entry insts all table specialised i whole fits h =
-    by_opcode (Stands insts all table i)
-    (λ is_o f w. constant_stands all table i _ _ (entry-by all table i op.SPEC_CONSTANT_TRUE is_o refl),
-    (λ is_o f w. constant_stands all table i _ _ (entry-by all table i op.SPEC_CONSTANT_FALSE is_o refl),
-    (λ is_o f w. constant_stands all table i _ _ (entry-by all table i op.SPEC_CONSTANT is_o refl), tt)))
-    (λ is_o f w. constant_stands all table i _ _ (entry-by all table i op.SPEC_CONSTANT_COMPOSITE is_o refl),
-    (operation_stands insts all table i, tt))
+    by_opcode (Stands insts all table i) (
+      λ is_o f w. constant_stands all table i _ _ (entry-by all table i op.SPEC_CONSTANT_TRUE is_o refl),
+      (
+        λ is_o f w. constant_stands all table i _ _ (entry-by all table i op.SPEC_CONSTANT_FALSE is_o refl),
+        (λ is_o f w. constant_stands all table i _ _ (entry-by all table i op.SPEC_CONSTANT is_o refl), tt),
+      ),
+    ) (
+      λ is_o f w. constant_stands all table i _ _ (entry-by all table i op.SPEC_CONSTANT_COMPOSITE is_o refl),
+      (operation_stands insts all table i, tt),
+    )
     all specialised i h refl fits whole
 
 -- the k-th, if it is a Specialised constant

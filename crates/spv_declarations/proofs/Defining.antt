@@ -1,22 +1,20 @@
 -- Which instructions give an id a meaning, and what meanings: row by row of what instructions say.
-use Rattle.std.proofs.Common.{◌≡◌, ℕ, zero, suc, ◌⊎◌, inl, inr, Bool, true, false, cond, not, ◌==◌, ◌&&◌, ◌||◌, List, [], ◌∷◌, ◌++◌, length, take, drop, get_or, map, Option, Some, None, refl, sym, ap, subst, ◌∙◌, arith}
+use Rattle.std.proofs.Common.{rules, ◌≡◌, ℕ, ◌⊎◌, inl, inr, Bool, true, false, cond, ◌==◌, ◌||◌, List, [], ◌∷◌, ◌++◌, take, drop, map, Option, Some, None, refl, sym, ap, subst, ◌∙◌}
 use Rattle.std.specs.Prelude.{nat_eq}
 use Rattle.std.specs.Option.{option_map}
-use Rattle.std.specs.List.{list_any, slice_index}
+use Rattle.std.specs.List.{slice_index}
 use Rattle.std.specs.Map.{lookup}
 use Rattle.std.proofs.lemmas.Bool.{eqb-true}
 use Rattle.spv_opcodes.specs.declared.op.TheConstants as op
 use Rattle.spv_opcodes.specs.declared.execution_mode.TheConstants as execution_mode
 use Rattle.spv_opcodes.specs.declared.storage_class.TheConstants as storage_class
-use Rattle.spv_grammar.specs.Table.{Shape, row_of}
-use Rattle.spv_grammar.specs.Operands.{opcode_of}
+use Rattle.spv_grammar.specs.Table.{row_of}
 use Rattle.spv_grammar.specs.Roles.{is_defined_id}
 use Rattle.spv_module.specs.Instruction.{Instruction, IsInstruction, opcode, roles, word_with}
 use Rattle.spv_meaning.specs.Statements as says
 use Rattle.spv_meaning.specs.Statements.{Statement, Rows, said, by_row, rows, module_rows, type_rows, constant_rows, flow_rows, memory_rows, operation_rows, atomic, evaluated, operation_on_all, of_constants, spec_constant_op, is_silent_opcode, mode, mode_by_ids}
-use Rattle.spv_meaning.specs.Computations.{Computation, Evaluates}
 use Rattle.spv_meaning.specs.Types as types
-use Rattle.spv_meaning.specs.Constants.{Table, Meaning, IsType, IsPointer, IsConstant, IsVariable, defined, initial, variable, pointer_at}
+use Rattle.spv_meaning.specs.Constants.{Table, Meaning, IsType, IsPointer, IsConstant, IsVariable, defined, initial, pointer_at}
 use Rattle.spv_typing.specs.Kinds.{is_one_of, data_types, constants}
 use Rattle.spv_declarations.specs.Declarations.{entry, entry_of}
 use Rattle.spv_declarations.proofs.Parts.{first_plain, first_typed, row_test, defined-plain, defined-typed}
@@ -82,14 +80,25 @@ typed o ws m r n suits first e =
 
 pub types_give : AllRows GivesIts type_rows
 unfolding row_of
-types_give =
-    (λ ws all table r m e. plain op.TYPE_BOOL ws _ r m refl refl e,
-    (λ ws all table r m e. plain op.TYPE_INT ws _ r m refl refl e,
-    (λ ws all table r m e. plain op.TYPE_VECTOR ws _ r m refl refl e,
-    (λ ws all table r m e. plain op.TYPE_ARRAY ws _ r m refl refl e,
-    (λ ws all table r m e. plain op.TYPE_RUNTIME_ARRAY ws _ r m refl refl e,
-    (λ ws all table r m e. plain op.TYPE_STRUCT ws _ r m refl refl e,
-    (λ ws all table r m e. plain op.TYPE_POINTER ws _ r m refl refl e, tt)))))))
+types_give = (
+  λ ws all table r m e. plain op.TYPE_BOOL ws _ r m refl refl e,
+  (
+    λ ws all table r m e. plain op.TYPE_INT ws _ r m refl refl e,
+    (
+      λ ws all table r m e. plain op.TYPE_VECTOR ws _ r m refl refl e,
+      (
+        λ ws all table r m e. plain op.TYPE_ARRAY ws _ r m refl refl e,
+        (
+          λ ws all table r m e. plain op.TYPE_RUNTIME_ARRAY ws _ r m refl refl e,
+          (
+            λ ws all table r m e. plain op.TYPE_STRUCT ws _ r m refl refl e,
+            (λ ws all table r m e. plain op.TYPE_POINTER ws _ r m refl refl e, tt),
+          ),
+        ),
+      ),
+    ),
+  ),
+)
 
 variable_gives : (target : types.DataType) (local : Bool) (ws : List ℕ) (table : Table) (r : ℕ) (m : Meaning) →
     option_map (λ m. (slice_index ws 1, m)) (cond local None (Some (IsVariable (slice_index ws 2) target (initial table target (drop 3 ws))))) ≡ stands r m → Gives op.VARIABLE ws r m
@@ -99,18 +108,37 @@ variable_gives target false ws table r m e = typed op.VARIABLE ws (IsVariable (s
 
 pub constants_give : AllRows GivesIts constant_rows
 unfolding row_of
-constants_give =
-    (λ ws all table r m e. typed op.CONSTANT_TRUE ws _ r m refl refl e,
-    (λ ws all table r m e. typed op.CONSTANT_FALSE ws _ r m refl refl e,
-    (λ ws all table r m e. typed op.CONSTANT ws _ r m refl refl e,
-    (λ ws all table r m e. typed op.CONSTANT_COMPOSITE ws _ r m refl refl e,
-    (λ ws all table r m e. typed op.CONSTANT_NULL ws _ r m refl refl e,
-    (λ ws all table r m e. typed op.SPEC_CONSTANT_TRUE ws _ r m refl refl e,
-    (λ ws all table r m e. typed op.SPEC_CONSTANT_FALSE ws _ r m refl refl e,
-    (λ ws all table r m e. typed op.SPEC_CONSTANT ws _ r m refl refl e,
-    (λ ws all table r m e. typed op.SPEC_CONSTANT_COMPOSITE ws _ r m refl refl e,
-    (λ ws all table r m e. typed op.UNDEF ws _ r m refl refl e,
-    (λ ws all table r m e. variable_gives (pointer_at table (slice_index ws 0)).1 (slice_index ws 2 == storage_class.FUNCTION) ws table r m e, tt)))))))))))
+constants_give = (
+  λ ws all table r m e. typed op.CONSTANT_TRUE ws _ r m refl refl e,
+  (
+    λ ws all table r m e. typed op.CONSTANT_FALSE ws _ r m refl refl e,
+    (
+      λ ws all table r m e. typed op.CONSTANT ws _ r m refl refl e,
+      (
+        λ ws all table r m e. typed op.CONSTANT_COMPOSITE ws _ r m refl refl e,
+        (
+          λ ws all table r m e. typed op.CONSTANT_NULL ws _ r m refl refl e,
+          (
+            λ ws all table r m e. typed op.SPEC_CONSTANT_TRUE ws _ r m refl refl e,
+            (
+              λ ws all table r m e. typed op.SPEC_CONSTANT_FALSE ws _ r m refl refl e,
+              (
+                λ ws all table r m e. typed op.SPEC_CONSTANT ws _ r m refl refl e,
+                (
+                  λ ws all table r m e. typed op.SPEC_CONSTANT_COMPOSITE ws _ r m refl refl e,
+                  (
+                    λ ws all table r m e. typed op.UNDEF ws _ r m refl refl e,
+                    (λ ws all table r m e. variable_gives (pointer_at table (slice_index ws 0)).1 (slice_index ws 2 == storage_class.FUNCTION) ws table r m e, tt),
+                  ),
+                ),
+              ),
+            ),
+          ),
+        ),
+      ),
+    ),
+  ),
+)
 
 -- a row that gives no id a meaning
 abbrev IsSilent : ℕ → (List ℕ → Statement) → Type 0
@@ -132,28 +160,13 @@ mode_by_ids_silent all table true function literals = refl
 mode_by_ids_silent all table false function literals = refl
 
 module_silent : AllRows IsSilent module_rows
-module_silent =
-    (λ ws all table. refl,
-    (λ ws all table. mode_silent all table (slice_index ws 1 == execution_mode.LOCAL_SIZE) (slice_index ws 0) (drop 2 ws),
-    (λ ws all table. mode_by_ids_silent all table (slice_index ws 1 == execution_mode.LOCAL_SIZE_ID) (slice_index ws 0) (drop 2 ws),
-    (λ ws all table. refl,
-    (λ ws all table. refl, tt)))))
+module_silent = search (rules, mode_silent, mode_by_ids_silent)
 
 flow_silent : AllRows IsSilent flow_rows
-flow_silent =
-    (λ ws all table. refl, (λ ws all table. refl, (λ ws all table. refl, (λ ws all table. refl,
-    (λ ws all table. refl, (λ ws all table. refl, (λ ws all table. refl, (λ ws all table. refl,
-    (λ ws all table. refl, (λ ws all table. refl, (λ ws all table. refl, (λ ws all table. refl,
-    (λ ws all table. refl, (λ ws all table. refl, tt))))))))))))))
+flow_silent = search rules
 
 memory_silent : AllRows IsSilent memory_rows
-memory_silent =
-    (λ ws all table. refl, (λ ws all table. refl, (λ ws all table. refl, (λ ws all table. refl,
-    (λ ws all table. refl, (λ ws all table. refl, (λ ws all table. refl, (λ ws all table. refl,
-    (λ ws all table. refl, rows-map IsSilent atomic
-        (op.ATOMIC_LOAD ∷ op.ATOMIC_EXCHANGE ∷ op.ATOMIC_I_INCREMENT ∷ op.ATOMIC_I_DECREMENT ∷ op.ATOMIC_I_ADD ∷ op.ATOMIC_I_SUB ∷ op.ATOMIC_S_MIN ∷ op.ATOMIC_U_MIN
-        ∷ op.ATOMIC_S_MAX ∷ op.ATOMIC_U_MAX ∷ op.ATOMIC_AND ∷ op.ATOMIC_OR ∷ op.ATOMIC_XOR ∷ [])
-        (λ o ws all table. refl))))))))))
+memory_silent = search rules
 
 -- ---- operations
 
@@ -177,15 +190,10 @@ evaluated_opcodes =
     ∷ op.SELECT ∷ op.BIT_FIELD_INSERT ∷ op.BIT_FIELD_S_EXTRACT ∷ op.BIT_FIELD_U_EXTRACT ∷ []
 
 pub operations_operate : AllRows Operates operation_rows
-operations_operate =
-    (λ ws. (refl, refl), (λ ws. (refl, refl), (λ ws. (refl, refl), (λ ws. (refl, refl), (λ ws. (refl, refl), (λ ws. (refl, refl), (λ ws. (refl, refl),
-    (λ ws. tt, (λ ws. (refl, refl), rows-map Operates evaluated evaluated_opcodes (λ o ws. (refl, refl)))))))))))
+operations_operate = search rules
 
 operations_silent : AllRows IsSilent operation_rows
-operations_silent =
-    (λ ws all table. refl, (λ ws all table. refl, (λ ws all table. refl, (λ ws all table. refl,
-    (λ ws all table. refl, (λ ws all table. refl, (λ ws all table. refl, (λ ws all table. refl,
-    (λ ws all table. refl, rows-map IsSilent evaluated evaluated_opcodes (λ o ws all table. refl))))))))))
+operations_silent = search rules
 
 -- the words without the inner opcode
 second_of : (ws : List ℕ) → slice_index (take 2 ws ++ drop 3 ws) 1 ≡ slice_index ws 1
@@ -214,10 +222,11 @@ pub rows_give : AllRows GivesIts rows
 rows_give =
     rows-append GivesIts module_rows (type_rows ++ (constant_rows ++ ((op.SPEC_CONSTANT_OP, spec_constant_op) ∷ (flow_rows ++ (memory_rows ++ operation_rows))))) (silent_give module_rows module_silent)
     (rows-append GivesIts type_rows (constant_rows ++ ((op.SPEC_CONSTANT_OP, spec_constant_op) ∷ (flow_rows ++ (memory_rows ++ operation_rows)))) types_give
-    (rows-append GivesIts constant_rows ((op.SPEC_CONSTANT_OP, spec_constant_op) ∷ (flow_rows ++ (memory_rows ++ operation_rows))) constants_give
-    (spec_op_gives,
-    rows-append GivesIts flow_rows (memory_rows ++ operation_rows) (silent_give flow_rows flow_silent)
-    (rows-append GivesIts memory_rows operation_rows (silent_give memory_rows memory_silent) (silent_give operation_rows operations_silent)))))
+    (rows-append GivesIts constant_rows ((op.SPEC_CONSTANT_OP, spec_constant_op) ∷ (flow_rows ++ (memory_rows ++ operation_rows))) constants_give (
+      spec_op_gives,
+      rows-append GivesIts flow_rows (memory_rows ++ operation_rows) (silent_give flow_rows flow_silent)
+          (rows-append GivesIts memory_rows operation_rows (silent_give memory_rows memory_silent) (silent_give operation_rows operations_silent)),
+    )))
 
 -- ---- an instruction
 

@@ -1,18 +1,14 @@
 -- The meaning of an id is what its first definition made of the table in front of it.
-use Rattle.std.proofs.Common.{◌≡◌, ℕ, zero, suc, ◌+◌, ◌<◌, ◌≤◌, ◌⊎◌, inl, inr, Bool, true, false, cond, not, ◌==◌, ◌&&◌, ◌||◌, List, [], ◌∷◌, ◌++◌, length, take, drop, Option, Some, None, refl, sym, ap, subst, ◌∙◌, arith}
-use Rattle.std.specs.Prelude.{nat_eq}
-use Rattle.std.specs.Option.{option_map, option_map_or}
-use Rattle.std.specs.List.{list_any, slice_get, slice_index, find}
-use Rattle.std.specs.Map.{lookup}
-use Rattle.std.proofs.lemmas.Bool.{eqb-true, eq-eqb, false≢true, or_parts, and_parts, both_ways}
+use Rattle.std.proofs.Common.{◌≡◌, ℕ, zero, suc, ◌<◌, ◌≤◌, ◌⊎◌, inl, inr, Bool, true, false, cond, List, [], ◌∷◌, ◌++◌, take, Option, Some, None, refl, sym, ap, subst, ◌∙◌, arith}
+use Rattle.std.specs.List.{list_any, slice_get, find}
+use Rattle.std.proofs.lemmas.Bool.{eqb-true, or_parts, both_ways}
 use Rattle.spv_grammar.specs.Roles.{is_defined_id}
 use Rattle.spv_module.specs.Code.{is_function}
-use Rattle.spv_module.specs.Instruction.{Instruction, IsInstruction, opcode, roles, word_with}
-use Rattle.spv_meaning.specs.Statements.{Statement}
-use Rattle.spv_meaning.specs.Constants.{Table, Meaning, IsType, IsConstant, meaning, with_entry}
+use Rattle.spv_module.specs.Instruction.{Instruction, word_with}
+use Rattle.spv_meaning.specs.Constants.{Table, Meaning, meaning, with_entry}
 use Rattle.spv_ids.specs.Ids.{defines, definition, is_defined_before}
-use Rattle.spv_declarations.specs.Declarations.{Declared, declare, declared_before, says, entry}
-use Rattle.spv_declarations.specs.Sound.{AreInstructions, Unbroken, IsBefore, table_before}
+use Rattle.spv_declarations.specs.Declarations.{Declared, declared_before, says, entry}
+use Rattle.spv_declarations.specs.Sound.{AreInstructions, Unbroken, table_before}
 use Rattle.spv_declarations.proofs.Defining.{entry-gives}
 use Rattle.spv_declarations.proofs.Tables.{declared-more, declared-past, defined-more, defined-past, defines_result, lookup-own, no_meaning, keeps_meaning, up_to, zero_only}
 

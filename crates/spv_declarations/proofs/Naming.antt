@@ -1,20 +1,18 @@
 -- A declaration names ids that are defined before it: which of its words name them.
-use Rattle.std.proofs.Common.{◌≡◌, ℕ, zero, suc, ◌+◌, ◌<◌, ◌≤◌, Bool, true, false, cond, not, ◌==◌, ◌&&◌, ◌||◌, List, [], ◌∷◌, ◌++◌, length, take, drop, replicate, map, Option, Some, None, Result, Ok, Err, refl, sym, ap, subst, ◌∙◌, arith}
-use Rattle.std.specs.List.{list_any, list_all, slice_index, filter, zip}
+use Rattle.std.proofs.Common.{◌≡◌, ℕ, Bool, true, false, not, ◌==◌, List, [], ◌∷◌, length, drop, replicate, refl, sym, ap, subst, ◌∙◌}
+use Rattle.std.specs.List.{list_any, list_all, slice_index}
 use Rattle.std.proofs.lemmas.Bool.{or_parts, and_parts, and_from, not-false}
-use Rattle.spv_opcodes.specs.declared.op.TheConstants as op
 use Rattle.spv_grammar.specs.declared.kind.Role.{Role}
-use Rattle.spv_grammar.specs.declared.kind.Role.TheVariants.{Opcode, TypeId, DefinedId, UsedId, Literal}
+use Rattle.spv_grammar.specs.declared.kind.Role.TheVariants.{Opcode, TypeId, DefinedId, UsedId}
 use Rattle.spv_grammar.specs.declared.kind.Kind.{Kind}
-use Rattle.spv_grammar.specs.declared.kind.Kind.TheVariants.{ResultType, ResultId, Id, Ids, Number, SomeNumbers}
+use Rattle.spv_grammar.specs.declared.kind.Kind.TheVariants.{Id, Ids}
 use Rattle.spv_grammar.specs.declared.section.TheConstants as section
-use Rattle.spv_grammar.specs.Table.{Shape, row_of, in_section}
-use Rattle.spv_grammar.specs.Operands.{operand_roles}
-use Rattle.spv_module.specs.Code.{is_line, plain_section, row_section}
-use Rattle.spv_module.specs.Instruction.{Instruction, IsInstruction, opcode, roles}
-use Rattle.spv_ids.specs.Ids.{is_defined, is_defined_before, is_unknown, names_unknown, is_declaration, used_ids, is_needed}
+use Rattle.spv_grammar.specs.Table.{row_of}
+use Rattle.spv_module.specs.Code.{row_section}
+use Rattle.spv_module.specs.Instruction.{Instruction, opcode}
+use Rattle.spv_ids.specs.Ids.{is_defined, is_defined_before, is_unknown, is_declaration, used_ids}
 use Rattle.spv_declarations.specs.Declarations.{Declared}
-use Rattle.spv_declarations.proofs.Parts.{Front, one-front, ids-words, nil-words, PlainWords, TypedWords, PlainParts, TypedParts, OperationParts, plain-parts, typed-parts, operation-parts, used_in}
+use Rattle.spv_declarations.proofs.Parts.{one-front, ids-words, TypedWords, PlainParts, TypedParts, used_in}
 use Rattle.spv_declarations.proofs.Unbroken.{Keeps}
 
 -- ---- all that it names
@@ -64,9 +62,9 @@ third-known p kinds words rs parts h =
     let f = one-front UsedId (Id ∷ kinds) front.rest front.others parts.fit in
     let g = one-front UsedId kinds f.rest f.others f.fit in
     let words_are : words ≡ front.word ∷ front.result ∷ f.word ∷ g.word ∷ g.rest =
-        front.words_are ∙ ap (λ (x : List ℕ). front.word ∷ front.result ∷ x) (f.words_are ∙ ap (λ (x : List ℕ). f.word ∷ x) g.words_are) in
+    front.words_are ∙ ap (λ (x : List ℕ). front.word ∷ front.result ∷ x) (f.words_are ∙ ap (λ (x : List ℕ). f.word ∷ x) g.words_are) in
     let parts_are : rs ≡ Opcode ∷ DefinedId ∷ UsedId ∷ UsedId ∷ g.others =
-        front.parts_are ∙ ap (λ (x : List Role). Opcode ∷ DefinedId ∷ x) (f.parts_are ∙ ap (λ (x : List Role). UsedId ∷ x) g.parts_are) in
+    front.parts_are ∙ ap (λ (x : List Role). Opcode ∷ DefinedId ∷ x) (f.parts_are ∙ ap (λ (x : List Role). UsedId ∷ x) g.parts_are) in
     rw words_are (one_known p g.word (used_in g.others g.rest) (others_known p f.word (g.word ∷ used_in g.others g.rest) (rw (words_are, parts_are) at h)))
 
 -- all from the second word on

@@ -1,7 +1,7 @@
 -- What OpSpecConstantOp says, by the form of the operation that it names.
-use Rattle.std.proofs.Common.{◌≡◌, ℕ, zero, suc, ◌+◌, Bool, true, false, cond, not, ◌==◌, ◌&&◌, ◌||◌, List, [], ◌∷◌, ◌++◌, length, take, drop, map, Option, Some, None, Result, Ok, Err, refl, sym, ap, subst, ◌∙◌, arith}
+use Rattle.std.proofs.Common.{rules, ◌≡◌, ℕ, zero, suc, Bool, true, false, cond, not, ◌==◌, ◌&&◌, ◌||◌, List, [], ◌∷◌, length, take, drop, map, Option, Some, None, Ok, Err, refl, sym, ap, subst, ◌∙◌, arith}
 use Rattle.std.specs.Prelude.{nat_eq}
-use Rattle.std.specs.List.{list_any, list_all, slice_index}
+use Rattle.std.specs.List.{list_all, slice_index}
 use Rattle.std.specs.Map.{lookup}
 use Rattle.std.specs.Option.{option_map, is_some}
 use Rattle.std.proofs.lemmas.Bool.{eqb-true, and_parts, and_from}
@@ -10,7 +10,7 @@ use Rattle.spv_grammar.specs.declared.kind.Role.TheVariants.{Opcode, TypeId, Def
 use Rattle.spv_grammar.specs.declared.kind.Kind.{Kind}
 use Rattle.spv_grammar.specs.declared.kind.Kind.TheVariants.{Id}
 use Rattle.spv_grammar.specs.Table.{Shape, row_of}
-use Rattle.spv_grammar.specs.Operands.{operand_roles, operand_kinds, inner_shape, inner_roles, row_roles, fitted}
+use Rattle.spv_grammar.specs.Operands.{operand_roles, operand_kinds, inner_shape, inner_roles, row_roles}
 use Rattle.spv_opcodes.specs.declared.op.TheConstants as op
 use Rattle.spv_module.specs.Instruction.{Instruction, IsInstruction, opcode, roles}
 use Rattle.spv_meaning.specs.Computations as computes
@@ -22,7 +22,7 @@ use Rattle.spv_typing.specs.declared.operations.Form.TheVariants.{Ints, Bools, C
 use Rattle.spv_typing.specs.Operations.{condition_fits, is_vector_of, all_pick, components_of, literals_lead, spec_operations, operands_fit, form_fits, spec_op_fits, all_shaped, has_shape, shape, count_of}
 use Rattle.spv_typing.specs.Kinds.{has_type, component, component_count, is_constant, is_vector, type_of}
 use Rattle.spv_declarations.specs.Declarations.{entry}
-use Rattle.spv_declarations.proofs.Parts.{OperationParts, operation-parts, one-front, used_in, row_test, fitted-some}
+use Rattle.spv_declarations.proofs.Parts.{operation-parts, one-front, used_in, row_test, fitted-some}
 use Rattle.spv_declarations.proofs.Defining.{entry-by}
 
 -- what an operation of a form says of values
@@ -45,7 +45,7 @@ operands_for Extracts rest = take 1 rest
 operands_for Inserts rest = take 2 rest
 operands_for form rest = rest
 
-abbrev AllForms : (ℕ → Form → Type 0) → List (ℕ × Form) → Type 0
+abbrev pub AllForms : (ℕ → Form → Type 0) → List (ℕ × Form) → Type 0
 AllForms P [] = Unit {0}
 AllForms P (f ∷ fs) = P f.0 f.1 × AllForms P fs
 
@@ -54,9 +54,7 @@ HasRow o form = lookup (nat_eq o) operation_rows ≡ Some (row_for form o)
 
 -- by computing
 have_rows : AllForms HasRow spec_operations
-have_rows =
-    (refl, (refl, (refl, (refl, (refl, (refl, (refl, (refl, (refl, (refl, (refl, (refl, (refl, (refl, (refl, (refl, (refl, (refl, (refl, (refl, (refl, (refl, (refl, (refl, (refl, (refl, (refl, (refl, (refl, (refl, (refl,
-    (refl, (refl, (refl, (refl, tt)))))))))))))))))))))))))))))))))))
+have_rows = search rules
 
 found_form : (P : ℕ → Form → Type 0) (o : ℕ) (e : ℕ × Form) (others : Option Form) (b : Bool) (form : Form) → nat_eq o e.0 ≡ b → P e.0 e.1 → cond b (Some e.1) others ≡ Some form → (others ≡ Some form → P o form) → P o form
 found_form P o e others true form same h is others_hold =
@@ -64,7 +62,7 @@ found_form P o e others true form same h is others_hold =
     subst (λ (f : Form). P o f) form_is (subst (λ (n : ℕ). P n e.1) (sym (eqb-true o e.0 same)) h)
 found_form P o e others false form same h is others_hold = others_hold is
 
-form_holds : (P : ℕ → Form → Type 0) (fs : List (ℕ × Form)) → AllForms P fs → (o : ℕ) (form : Form) → lookup (nat_eq o) fs ≡ Some form → P o form
+pub form_holds : (P : ℕ → Form → Type 0) (fs : List (ℕ × Form)) → AllForms P fs → (o : ℕ) (form : Form) → lookup (nat_eq o) fs ≡ Some form → P o form
 form_holds P [] h o form is = cc
 form_holds P (f ∷ fs) h o form is = found_form P o f (lookup (nat_eq o) fs) (nat_eq o f.0) form refl h.0 is (λ found. form_holds P fs h.1 o form found)
 
@@ -162,9 +160,7 @@ HasOperands o form = row_test (λ kinds. leading_ids (operand_kinds kinds) == op
 -- by computing
 have_operands : AllForms HasOperands spec_operations
 unfolding row_of
-have_operands =
-    (refl, (refl, (refl, (refl, (refl, (refl, (refl, (refl, (refl, (refl, (refl, (refl, (refl, (refl, (refl, (refl, (refl, (refl, (refl, (refl, (refl, (refl, (refl, (refl, (refl, (refl, (refl, (refl, (refl, (refl, (refl,
-    (refl, (refl, (refl, (refl, tt)))))))))))))))))))))))))))))))))))
+have_operands = search rules
 
 inner_known : (p : ℕ → Bool) (n : ℕ) (row : Option Shape) (ws : List ℕ) (rs : List Role) → row_test (λ kinds. leading_ids (operand_kinds kinds) == n) row ≡ true → row_roles (option_map inner_shape row) ws ≡ Ok rs →
     list_all p (used_in rs ws) ≡ true → list_all p (take n ws) ≡ true

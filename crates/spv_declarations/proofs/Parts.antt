@@ -1,18 +1,18 @@
 -- The words of a declaration and the part of each, by the row of its opcode.
-use Rattle.std.proofs.Common.{◌≡◌, ℕ, zero, suc, ◌+◌, ◌<◌, ◌≤◌, Bool, true, false, cond, not, ◌==◌, ◌&&◌, ◌||◌, nat_le, List, [], ◌∷◌, ◌++◌, length, take, drop, get_or, map, replicate, Option, Some, None, Result, Ok, Err, refl, sym, ap, subst, ◌∙◌, arith}
+use Rattle.std.proofs.Common.{◌≡◌, ℕ, suc, Bool, true, false, ◌==◌, nat_le, List, [], ◌∷◌, ◌++◌, length, drop, map, replicate, Option, Some, None, Result, Ok, Err, refl, sym, ap, subst, ◌∙◌, arith}
 use Rattle.std.specs.Option.{option_map, option_and_then}
-use Rattle.std.specs.List.{list_any, list_all, filter, zip, position, slice_get, slice_index}
+use Rattle.std.specs.List.{filter, zip, position, slice_get, slice_index}
 use Rattle.std.proofs.lemmas.Bool.Decides.{nat_tests}
 use Rattle.spv_grammar.specs.declared.kind.Role.{Role}
-use Rattle.spv_grammar.specs.declared.kind.Role.TheVariants.{Opcode, TypeId, DefinedId, UsedId, Literal, UnknownEnumerant}
+use Rattle.spv_grammar.specs.declared.kind.Role.TheVariants.{Opcode, TypeId, DefinedId, UsedId, Literal}
 use Rattle.spv_grammar.specs.declared.kind.Kind.{Kind}
-use Rattle.spv_grammar.specs.declared.kind.Kind.TheVariants.{ResultType, ResultId, Id, OptionalId, Ids, IdPairs, Number, SomeNumbers, Numbers, Weights, Cases, Text, OptionalText, SetName, One, MemoryOperands, Decoration, ExtInst}
+use Rattle.spv_grammar.specs.declared.kind.Kind.TheVariants.{ResultType, ResultId, Ids}
 use Rattle.spv_opcodes.specs.declared.op.TheConstants as op
 use Rattle.spv_grammar.specs.Table.{Shape, row_of}
-use Rattle.spv_grammar.specs.Operands.{Taken, one, all_if, taken, operand_roles, fitted, behind, row_roles, inner_roles, spec_constant_roles, body_roles, opcode_of, roles_of}
-use Rattle.spv_grammar.specs.Roles.{is_defined_id, is_used_id, is_type_id}
-use Rattle.spv_module.specs.Instruction.{Instruction, IsInstruction, opcode, roles, word_with, parts}
-use Rattle.spv_ids.specs.Ids.{words_with, used_ids, is_needed, defines}
+use Rattle.spv_grammar.specs.Operands.{one, all_if, operand_roles, fitted, behind, inner_roles, spec_constant_roles, body_roles, opcode_of, roles_of}
+use Rattle.spv_grammar.specs.Roles.{is_defined_id}
+use Rattle.spv_module.specs.Instruction.{Instruction, IsInstruction, opcode, roles, word_with}
+use Rattle.spv_ids.specs.Ids.{is_needed}
 use Rattle.spv_ids.proofs.Places.{position-cons}
 
 -- ---- words with their parts
@@ -244,7 +244,7 @@ typed_defined w t r ws others =
     ap (λ (p : Option ℕ). option_and_then (slice_get (w ∷ t ∷ r ∷ ws)) p)
     (position-cons is_defined_id Opcode (TypeId ∷ DefinedId ∷ others)
     ∙ ap (λ (p : Option ℕ). option_map (λ k. suc k) p)
-      (position-cons is_defined_id TypeId (DefinedId ∷ others) ∙ ap (λ (p : Option ℕ). option_map (λ k. suc k) p) (position-cons is_defined_id DefinedId others)))
+    (position-cons is_defined_id TypeId (DefinedId ∷ others) ∙ ap (λ (p : Option ℕ). option_map (λ k. suc k) p) (position-cons is_defined_id DefinedId others)))
 
 plain_words-defined : (words : List ℕ) (rs : List Role) → PlainWords words rs → defined_in words rs ≡ Some (slice_index (drop 1 words) 0)
 plain_words-defined words rs p = rw (p.words_are, p.parts_are) (plain_defined p.word p.result p.rest p.others)

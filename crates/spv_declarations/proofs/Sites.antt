@@ -1,23 +1,21 @@
 -- The instruction that defines an id outside functions, and what is known there.
-use Rattle.std.proofs.Common.{◌≡◌, ℕ, zero, suc, ◌+◌, ◌<◌, ◌≤◌, Bool, true, false, cond, not, ◌==◌, ◌&&◌, ◌||◌, List, [], ◌∷◌, ◌++◌, length, take, drop, Option, Some, None, refl, sym, ap, subst, ◌∙◌, arith}
+use Rattle.std.proofs.Common.{◌≡◌, ℕ, zero, suc, Bool, true, false, not, ◌==◌, ◌&&◌, List, [], ◌∷◌, ◌++◌, drop, Option, refl, sym, ap, ◌∙◌, arith}
 use Rattle.std.specs.Prelude.{nat_eq}
 use Rattle.std.specs.Option.{option_map_or}
-use Rattle.std.specs.List.{list_any, list_all, slice_get, slice_index}
+use Rattle.std.specs.List.{list_all, slice_index}
 use Rattle.std.specs.Map.{lookup}
 use Rattle.std.proofs.lemmas.Bool.{eqb-true, and_parts}
-use Rattle.spv_opcodes.specs.declared.op.TheConstants as op
 use Rattle.spv_opcodes.specs.declared.decoration.TheConstants as decoration
 use Rattle.spv_grammar.specs.Table.{row_of}
 use Rattle.spv_grammar.specs.declared.section.TheConstants as section
-use Rattle.spv_grammar.specs.Roles.{is_defined_id}
 use Rattle.spv_module.specs.Code.{row_section}
-use Rattle.spv_module.specs.Instruction.{Instruction, IsInstruction, opcode, roles, word_with}
+use Rattle.spv_module.specs.Instruction.{Instruction, IsInstruction, opcode, roles}
 use Rattle.spv_meaning.specs.Statements.{Statement, rows, by_row, is_silent_opcode}
-use Rattle.spv_meaning.specs.Constants.{Table, Meaning, meaning, type_in, type_at, words_in, words_at, length_in, length_at, defined, composed, members_of, member_decorated, first_literal}
-use Rattle.spv_meaning.specs.Types.{DataType, Members, NoMember, Member}
+use Rattle.spv_meaning.specs.Constants.{Table, Meaning, meaning, type_in, type_at, words_in, words_at, defined, composed, members_of, member_decorated, first_literal}
+use Rattle.spv_meaning.specs.Types.{Members, Member}
 use Rattle.std.specs.Option.{is_some}
-use Rattle.spv_ids.specs.Ids.{defines, definition, kind, word_of, words_of, is_defined_before, used_ids}
-use Rattle.spv_declarations.specs.Declarations.{Declared, declared_before, says, entry}
+use Rattle.spv_ids.specs.Ids.{kind, word_of, words_of, is_defined_before, used_ids}
+use Rattle.spv_declarations.specs.Declarations.{declared_before, says}
 use Rattle.spv_declarations.specs.Sound.{AreInstructions, Unbroken, IsBefore, table_before}
 use Rattle.spv_declarations.proofs.Defining.{entry-by}
 use Rattle.spv_declarations.proofs.Unbroken.{Keeps, keeps, loud-plain}

@@ -1,35 +1,34 @@
 -- A constant has the type that its instruction names, and the words of a value of it.
-use Rattle.std.proofs.Common.{◌≡◌, ℕ, zero, suc, ◌+◌, ◌*◌, ◌<◌, ◌≤◌, Bool, true, false, cond, not, ◌==◌, ◌&&◌, ◌||◌, nat_le, List, [], ◌∷◌, ◌++◌, length, take, drop, replicate, map, Option, Some, None, refl, sym, ap, subst, ◌∙◌, arith}
+use Rattle.std.proofs.Common.{rules, ◌≡◌, ℕ, zero, suc, ◌<◌, ◌≤◌, Bool, true, false, cond, not, ◌==◌, ◌&&◌, ◌||◌, nat_le, List, [], ◌∷◌, length, drop, map, Option, Some, None, refl, sym, ap, subst, ◌∙◌, arith}
 use Rattle.std.specs.Prelude.{nat_eq}
-use Rattle.std.specs.List.{list_any, list_all, slice_get, slice_index}
+use Rattle.std.specs.List.{list_all, slice_get, slice_index}
 use Rattle.std.specs.Map.{lookup}
-use Rattle.std.proofs.lemmas.Bool.{eqb-true, and_parts, or_cases}
+use Rattle.std.proofs.lemmas.Bool.{eqb-true, and_parts}
 use Rattle.spv_opcodes.specs.declared.op.TheConstants as op
 use Rattle.spv_opcodes.specs.declared.decoration.TheConstants as decoration
-use Rattle.spv_grammar.specs.declared.kind.Kind.{Kind}
-use Rattle.spv_grammar.specs.declared.kind.Kind.TheVariants.{ResultType, ResultId, Id, Ids, Number, SomeNumbers}
+use Rattle.spv_grammar.specs.declared.kind.Kind.TheVariants.{ResultType, ResultId, Ids}
 use Rattle.spv_grammar.specs.Table.{row_of, in_section}
-use Rattle.spv_module.specs.Instruction.{Instruction, IsInstruction, opcode, roles}
+use Rattle.spv_module.specs.Instruction.{Instruction, roles}
 use Rattle.spv_meaning.specs.Computations.{computed}
-use Rattle.spv_meaning.specs.Constants.{Table, Meaning, IsType, IsConstant, meaning, type_in, type_at, words_in, words_at, typed_at, length_in, length_at, members_of, composed, zeros, given, decorated, defined}
+use Rattle.spv_meaning.specs.Constants.{Table, Meaning, IsType, IsConstant, meaning, type_in, type_at, words_in, words_at, typed_at, length_at, members_of, composed, zeros, given, decorated, defined}
 use Rattle.spv_meaning.specs.Statements.{Statement}
-use Rattle.spv_meaning.specs.Types.{DataType, Boolean, Integer, Vector, Array, RuntimeArray, Struct, Members, copies, cells, booleans, member_booleans}
-use Rattle.spv_ids.specs.Ids.{kind, word_of, words_of, is_defined_before}
+use Rattle.spv_meaning.specs.Types.{DataType, Vector, Array, copies, booleans, member_booleans}
+use Rattle.spv_ids.specs.Ids.{kind, is_defined_before}
 use Rattle.spv_typing.specs.Kinds.{is_one_of, constants, is_bool, is_int, is_vector, is_array, is_struct, is_closed, is_spec, is_constant, is_outside, type_of, component, component_count, element, length_id, members, has_type}
 use Rattle.spv_typing.specs.declared.operations.Form.{Form}
 use Rattle.spv_typing.specs.Operations.{spec_operations, operands_fit}
-use Rattle.spv_declarations.specs.Constants.{constant_fits, composite_fits, has_length, are_of}
+use Rattle.spv_declarations.specs.Constants.{composite_fits, has_length, are_of}
 use Rattle.spv_declarations.specs.Declarations.{Declared, declared_before, says}
 use Rattle.spv_declarations.specs.Sound.{AreInstructions, Unbroken, IsBefore, table_before, IsSoundType}
 use Rattle.spv_declarations.proofs.Parts.{first_typed, row_test, typed-words, TypedParts, typed-parts}
-use Rattle.spv_declarations.proofs.Meanings.{DefinedAt, defined_at, not_begun, meaning_in}
+use Rattle.spv_declarations.proofs.Meanings.{defined_at, not_begun, meaning_in}
 use Rattle.spv_declarations.proofs.Naming.{type-known, constituents-known}
-use Rattle.spv_declarations.proofs.Sites.{Site, site, is_declared, opcode-is, word-is, words-is, index-on, drop-on}
+use Rattle.spv_declarations.proofs.Sites.{Site, site, is_declared, opcode-is, word-is, index-on, drop-on}
 use Rattle.spv_declarations.proofs.SoundTypes.{type_same, sound_type}
 use Rattle.spv_declarations.proofs.Declares.{AllOf, one_of-holds}
 use Rattle.spv_declarations.proofs.Operations.{computation_for, operands_for, fitting-form, said-operation, operands-known, operands-constant}
-use Rattle.spv_declarations.proofs.Tables.{unbroken-less}
-use Rattle.spv_declarations.proofs.Words.{AreWordsOf, IsWordOf, words-append, words-zeros_of, one-word}
+use Rattle.spv_declarations.proofs.Tables.{unbroken-less, stays-defined}
+use Rattle.spv_declarations.proofs.Words.{AreWordsOf, words-append, words-zeros_of, one-word}
 
 -- what a constant stands for: words of a value of its type
 pub record Holds (P : ℕ → Type 0) (insts : List Instruction) (table : Table) (id : ℕ) : Type 0 where
@@ -180,11 +179,11 @@ composite_suits P insts k t ids sound earlier known h =
     let table = table_before insts k in
     let d = declared_before insts k in
     let of_vector = λ (v : is_vector insts t ≡ true) (e : (component_count insts t == length ids && list_all (has_type insts (component insts t)) ids) ≡ true).
-      vector_suits P insts k t ids (sound.vector v) earlier known e in
+    vector_suits P insts k t ids (sound.vector v) earlier known e in
     let of_array = λ (a : is_array insts t ≡ true) (e : (has_length d (length_id insts t) (length ids) && list_all (has_type insts (element insts t)) ids) ≡ true).
-      array_suits P insts k t ids (sound.array a).0 (sound.array a).1 earlier known e in
+    array_suits P insts k t ids (sound.array a).0 (sound.array a).1 earlier known e in
     let of_struct = λ (e : (is_struct insts t && are_of insts (members insts t) ids) ≡ true).
-      struct_suits P insts k t ids sound earlier known e in
+    struct_suits P insts k t ids sound earlier known e in
     three_ways (AreWordsOf P (booleans (type_at table t)) (composed table ids)) (is_vector insts t) (is_array insts t)
     (component_count insts t == length ids && list_all (has_type insts (component insts t)) ids)
     (has_length d (length_id insts t) (length ids) && list_all (has_type insts (element insts t)) ids)
@@ -276,7 +275,7 @@ operation_holds P insts setting k id earlier s =
     let held = all_hold P insts s.d.place (earlier s.d.place s.d.before) ids known (operands-constant insts f.form t rest f.fit) in
     let ws = computed (computation_for f.form (slice_index words 3) rest) (type_at table t) (map (typed_at table) ids) in
     let stands : meaning (table_before insts k) id ≡ Some (IsConstant (type_at table t) ws) =
-      s.stands ∙ ap (λ (st : Statement). meaning_in (defined (says insts) [] table st)) (said-operation s.d.inst f.form s.whole s.is_o f.is) in
+    s.stands ∙ ap (λ (st : Statement). meaning_in (defined (says insts) [] table st)) (said-operation s.d.inst f.form s.whole s.is_o f.is) in
     holds_from P insts k id op.SPEC_CONSTANT_OP s refl ws
     (stands ∙ ap (λ (x : ℕ). Some (IsConstant (type_at table x) ws)) (sym (index-on words 0)))
     (setting.operations s.d.place f.form (slice_index words 3) t rest s.clean s.outside (typed-known insts k id op.SPEC_CONSTANT_OP s refl) f.is f.fit held)
@@ -304,25 +303,44 @@ Case P insts k id o = Site insts k id o → Holds P insts (table_before insts k)
 
 constants_hold : (P : ℕ → Type 0) (insts : List Instruction) → Setting P insts → (k id : ℕ) → AllEarlier P insts k → AllOf (Case P insts k id) (op.UNDEF ∷ constants)
 unfolding row_of
-constants_hold P insts setting k id earlier =
-    (λ s. zeros_hold P insts setting k id op.UNDEF s refl s.stands,
-    (λ s. truth_holds P insts setting k id op.CONSTANT_TRUE s refl (constant-rule insts k id op.CONSTANT_TRUE s) 1 (omega arith) s.stands,
-    (λ s. truth_holds P insts setting k id op.CONSTANT_FALSE s refl (constant-rule insts k id op.CONSTANT_FALSE s) 0 (omega arith) s.stands,
-    (λ s. number_holds P insts setting k id op.CONSTANT s refl (constant-rule insts k id op.CONSTANT s) s.stands,
-    (λ s. composite_holds P insts setting k id op.CONSTANT_COMPOSITE s refl earlier (composite_parts insts k id s) (and_parts _ _ (constant-rule insts k id op.CONSTANT_COMPOSITE s)).0 s.stands,
-    (λ s. zeros_hold P insts setting k id op.CONSTANT_NULL s refl s.stands,
-    (λ s. truth_holds P insts setting k id op.SPEC_CONSTANT_TRUE s refl (constant-rule insts k id op.SPEC_CONSTANT_TRUE s) 1 (omega arith)
-        (given_stands (meaning (table_before insts k) id) (decorated (says insts) (slice_index (drop 1 s.d.inst.words) 1) decoration.SPEC_ID) (type_at (table_before insts s.d.place) (slice_index (drop 1 s.d.inst.words) 0)) (1 ∷ []) s.stands),
-    (λ s. truth_holds P insts setting k id op.SPEC_CONSTANT_FALSE s refl (constant-rule insts k id op.SPEC_CONSTANT_FALSE s) 0 (omega arith)
-        (given_stands (meaning (table_before insts k) id) (decorated (says insts) (slice_index (drop 1 s.d.inst.words) 1) decoration.SPEC_ID) (type_at (table_before insts s.d.place) (slice_index (drop 1 s.d.inst.words) 0)) (0 ∷ []) s.stands),
-    (λ s. number_holds P insts setting k id op.SPEC_CONSTANT s refl (constant-rule insts k id op.SPEC_CONSTANT s)
-        (given_stands (meaning (table_before insts k) id) (decorated (says insts) (slice_index (drop 1 s.d.inst.words) 1) decoration.SPEC_ID) (type_at (table_before insts s.d.place) (slice_index (drop 1 s.d.inst.words) 0)) (drop 2 (drop 1 s.d.inst.words)) s.stands),
-    (λ s. composite_holds P insts setting k id op.SPEC_CONSTANT_COMPOSITE s refl earlier (spec_composite_parts insts k id s) (constant-rule insts k id op.SPEC_CONSTANT_COMPOSITE s) s.stands,
-    (operation_holds P insts setting k id earlier, tt)))))))))))
+constants_hold P insts setting k id earlier = (
+  λ s. zeros_hold P insts setting k id op.UNDEF s refl s.stands,
+  (
+    λ s. truth_holds P insts setting k id op.CONSTANT_TRUE s refl (constant-rule insts k id op.CONSTANT_TRUE s) 1 (omega arith) s.stands,
+    (
+      λ s. truth_holds P insts setting k id op.CONSTANT_FALSE s refl (constant-rule insts k id op.CONSTANT_FALSE s) 0 (omega arith) s.stands,
+      (
+        λ s. number_holds P insts setting k id op.CONSTANT s refl (constant-rule insts k id op.CONSTANT s) s.stands,
+        (
+          λ s. composite_holds P insts setting k id op.CONSTANT_COMPOSITE s refl earlier (composite_parts insts k id s) (and_parts _ _ (constant-rule insts k id op.CONSTANT_COMPOSITE s)).0 s.stands,
+          (
+            λ s. zeros_hold P insts setting k id op.CONSTANT_NULL s refl s.stands,
+            (
+              λ s. truth_holds P insts setting k id op.SPEC_CONSTANT_TRUE s refl (constant-rule insts k id op.SPEC_CONSTANT_TRUE s) 1 (omega arith)
+                  (given_stands (meaning (table_before insts k) id) (decorated (says insts) (slice_index (drop 1 s.d.inst.words) 1) decoration.SPEC_ID) (type_at (table_before insts s.d.place) (slice_index (drop 1 s.d.inst.words) 0)) (1 ∷ []) s.stands),
+              (
+                λ s. truth_holds P insts setting k id op.SPEC_CONSTANT_FALSE s refl (constant-rule insts k id op.SPEC_CONSTANT_FALSE s) 0 (omega arith)
+                    (given_stands (meaning (table_before insts k) id) (decorated (says insts) (slice_index (drop 1 s.d.inst.words) 1) decoration.SPEC_ID) (type_at (table_before insts s.d.place) (slice_index (drop 1 s.d.inst.words) 0)) (0 ∷ []) s.stands),
+                (
+                  λ s. number_holds P insts setting k id op.SPEC_CONSTANT s refl (constant-rule insts k id op.SPEC_CONSTANT s)
+                      (given_stands (meaning (table_before insts k) id) (decorated (says insts) (slice_index (drop 1 s.d.inst.words) 1) decoration.SPEC_ID) (type_at (table_before insts s.d.place) (slice_index (drop 1 s.d.inst.words) 0)) (drop 2 (drop 1 s.d.inst.words)) s.stands),
+                  (
+                    λ s. composite_holds P insts setting k id op.SPEC_CONSTANT_COMPOSITE s refl earlier (spec_composite_parts insts k id s) (constant-rule insts k id op.SPEC_CONSTANT_COMPOSITE s) s.stands,
+                    (operation_holds P insts setting k id earlier, tt),
+                  ),
+                ),
+              ),
+            ),
+          ),
+        ),
+      ),
+    ),
+  ),
+)
 
 constants_declared : AllOf (λ o. is_declared o ≡ true) (op.UNDEF ∷ constants)
 unfolding row_of
-constants_declared = (refl, (refl, (refl, (refl, (refl, (refl, (refl, (refl, (refl, (refl, (refl, tt)))))))))))
+constants_declared = search rules
 
 -- a constant's instruction is one of those
 pub constant_kind : (insts : List Instruction) (id : ℕ) → is_constant insts id ≡ true → is_one_of (op.UNDEF ∷ constants) (kind insts id) ≡ true
@@ -333,6 +351,21 @@ constant_kind insts id h = kinds_of (is_one_of constants (kind insts id)) (kind 
     kinds_of true false c h = refl
     kinds_of false true c h = refl
     kinds_of false false c h = h
+
+constants_typed : AllOf (λ o. row_test first_typed (row_of o) ≡ true) (op.UNDEF ∷ constants)
+unfolding row_of
+constants_typed = search rules
+
+-- the type of a constant is defined before it
+pub type_before : (insts : List Instruction) → AreInstructions insts → (k id : ℕ) → Unbroken insts k → (declared_before insts k).begun ≡ false → IsBefore insts k id → is_constant insts id ≡ true → IsBefore insts k (type_of insts id)
+type_before insts whole k id clean outside before h =
+    let o = kind insts id in
+    let listed = constant_kind insts id h in
+    let d = defined_at insts k id before in
+    let s = site insts whole k id o clean outside d (sym (opcode-is insts k id d)) (one_of-holds (λ n. is_declared n ≡ true) (op.UNDEF ∷ constants) constants_declared o listed) in
+    let known = typed-known insts k id o s (one_of-holds (λ n. row_test first_typed (row_of n) ≡ true) (op.UNDEF ∷ constants) constants_typed o listed) in
+    let named : is_defined_before insts s.d.place (type_of insts id) ≡ true = subst (λ (n : ℕ). is_defined_before insts s.d.place n ≡ true) (word-is insts k id 1 s.d) known in
+    stays-defined insts s.d.place k (type_of insts id) (omega (arith, s.d.before)) named
 
 constant_step : (P : ℕ → Type 0) (insts : List Instruction) → Setting P insts → (k id : ℕ) → AllEarlier P insts k → Unbroken insts k → (declared_before insts k).begun ≡ false → IsBefore insts k id → is_constant insts id ≡ true → Holds P insts (table_before insts k) id
 constant_step P insts setting k id earlier clean outside before h =

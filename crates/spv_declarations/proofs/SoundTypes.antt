@@ -1,22 +1,18 @@
 -- What a type is by its instruction is what it stands for.
-use Rattle.std.proofs.Common.{◌≡◌, ℕ, zero, suc, ◌+◌, ◌<◌, ◌≤◌, Bool, true, false, cond, not, ◌==◌, ◌&&◌, ◌||◌, nat_le, List, [], ◌∷◌, ◌++◌, length, take, drop, Option, Some, None, refl, sym, ap, subst, ◌∙◌, arith}
-use Rattle.std.specs.Prelude.{nat_eq}
-use Rattle.std.specs.List.{list_any, list_all, slice_get, slice_index}
-use Rattle.std.specs.Map.{lookup}
+use Rattle.std.proofs.Common.{◌≡◌, ℕ, suc, Bool, true, false, cond, ◌==◌, nat_le, List, [], ◌∷◌, drop, Option, Some, refl, sym, ap, ◌∙◌}
+use Rattle.std.specs.List.{list_all, slice_index}
 use Rattle.std.proofs.lemmas.Bool.{eqb-true, and_parts}
 use Rattle.spv_opcodes.specs.declared.op.TheConstants as op
 use Rattle.spv_opcodes.specs.declared.decoration.TheConstants as decoration
-use Rattle.spv_grammar.specs.declared.kind.Kind.{Kind}
-use Rattle.spv_grammar.specs.declared.kind.Kind.TheVariants.{ResultType, ResultId, Id, Ids, Number, SomeNumbers}
-use Rattle.spv_grammar.specs.declared.section.TheConstants as section
+use Rattle.spv_grammar.specs.declared.kind.Kind.TheVariants.{ResultId, Id, Ids, Number}
 use Rattle.spv_grammar.specs.Table.{row_of, in_section}
-use Rattle.spv_module.specs.Instruction.{Instruction, IsInstruction, opcode, roles}
-use Rattle.spv_meaning.specs.Constants.{Table, Meaning, IsType, meaning, type_in, type_at, length_in, length_at, members_of, decorated, first_literal}
+use Rattle.spv_module.specs.Instruction.{Instruction, roles}
+use Rattle.spv_meaning.specs.Constants.{Meaning, IsType, meaning, type_in, type_at, length_in, length_at, members_of, decorated, first_literal}
 use Rattle.spv_meaning.specs.Types.{DataType, Boolean, Integer, Vector, Array, RuntimeArray, Struct, Members}
-use Rattle.spv_ids.specs.Ids.{kind, word_of, words_of, is_defined_before}
-use Rattle.spv_typing.specs.Kinds.{is_bool, is_int, is_vector, is_array, is_runtime_array, is_struct, is_void, is_pointer, is_closed, is_constant, type_of, component, component_count, element, length_id, members}
-use Rattle.spv_typing.specs.Types.{type_fits, int_fits, vector_fits, array_fits, struct_fits, pointer_fits, function_fits}
-use Rattle.spv_declarations.specs.Declarations.{Declared, declared_before, says}
+use Rattle.spv_ids.specs.Ids.{word_of, is_defined_before}
+use Rattle.spv_typing.specs.Kinds.{is_closed, component, component_count, element, length_id, members}
+use Rattle.spv_typing.specs.Types.{int_fits, vector_fits, array_fits, struct_fits, pointer_fits, function_fits}
+use Rattle.spv_declarations.specs.Declarations.{declared_before, says}
 use Rattle.spv_declarations.specs.Sound.{AreInstructions, Unbroken, IsBefore, table_before, IsSoundType}
 use Rattle.spv_declarations.proofs.Parts.{PlainParts, plain-parts, defined-plain}
 use Rattle.spv_declarations.proofs.Meanings.{result_is}
@@ -125,18 +121,20 @@ array_stands : (insts : List Instruction) (k id : ℕ) (s : Site insts k id op.T
     (stride : Option ℕ) × (meaning (table_before insts k) id ≡ Some (IsType (Array stride (length_at (table_before insts k) (length_id insts id)) (type_at (table_before insts k) (element insts id)))))
 array_stands insts k id s =
     let ws = drop 1 s.d.inst.words in
-    let stride = first_literal (decorated (says insts) (slice_index ws 0) decoration.ARRAY_STRIDE) in
-    (stride,
+    let stride = first_literal (decorated (says insts) (slice_index ws 0) decoration.ARRAY_STRIDE) in (
+      stride,
       same_array stride (length_at (table_before insts s.d.place) (slice_index ws 2)) (length_at (table_before insts k) (length_id insts id)) (type_at (table_before insts s.d.place) (slice_index ws 1)) (type_at (table_before insts k) (element insts id)) (meaning (table_before insts k) id) s.stands
-      (length_same insts k id op.TYPE_ARRAY 2 s (length-known insts k id s)) (type_same insts k id op.TYPE_ARRAY 1 s (element-known insts k id s)))
+          (length_same insts k id op.TYPE_ARRAY 2 s (length-known insts k id s)) (type_same insts k id op.TYPE_ARRAY 1 s (element-known insts k id s)),
+    )
 
 runtime_stands : (insts : List Instruction) (k id : ℕ) (s : Site insts k id op.TYPE_RUNTIME_ARRAY) → (stride : Option ℕ) × (meaning (table_before insts k) id ≡ Some (IsType (RuntimeArray stride (type_at (table_before insts k) (element insts id)))))
 runtime_stands insts k id s =
     let ws = drop 1 s.d.inst.words in
-    let stride = first_literal (decorated (says insts) (slice_index ws 0) decoration.ARRAY_STRIDE) in
-    (stride,
+    let stride = first_literal (decorated (says insts) (slice_index ws 0) decoration.ARRAY_STRIDE) in (
+      stride,
       same_runtime stride (type_at (table_before insts s.d.place) (slice_index ws 1)) (type_at (table_before insts k) (element insts id)) (meaning (table_before insts k) id) s.stands
-      (type_same insts k id op.TYPE_RUNTIME_ARRAY 1 s (runtime-known insts k id s)))
+          (type_same insts k id op.TYPE_RUNTIME_ARRAY 1 s (runtime-known insts k id s)),
+    )
 
 -- a struct's instruction defines the struct
 struct_id : (insts : List Instruction) (k id : ℕ) (s : Site insts k id op.TYPE_STRUCT) → slice_index (drop 1 s.d.inst.words) 0 ≡ id

@@ -1,22 +1,20 @@
 -- The table of meanings, one instruction after the other: an id gets its meaning where it is first defined, and keeps it.
-use Rattle.std.proofs.Common.{◌≡◌, ℕ, zero, suc, ◌+◌, ◌<◌, ◌≤◌, ◌⊎◌, inl, inr, Bool, true, false, cond, not, ◌==◌, ◌&&◌, ◌||◌, List, [], ◌∷◌, ◌++◌, length, take, drop, Option, Some, None, refl, sym, ap, subst, ◌∙◌, arith}
+use Rattle.std.proofs.Common.{◌≡◌, ℕ, zero, suc, ◌≤◌, ◌⊎◌, inl, inr, Bool, true, false, cond, ◌||◌, List, [], ◌∷◌, ◌++◌, take, Option, Some, None, refl, sym, ap, subst, ◌∙◌, arith}
 use Rattle.std.specs.Prelude.{nat_eq}
-use Rattle.std.specs.Option.{option_map, option_map_or, option_or, option_to_list}
-use Rattle.std.specs.List.{list_any, slice_get, slice_index, find, position}
+use Rattle.std.specs.Option.{option_map_or, option_to_list}
+use Rattle.std.specs.List.{list_any, slice_get}
 use Rattle.std.specs.Map.{lookup}
-use Rattle.std.proofs.lemmas.Bool.{eqb-true, eq-eqb, false≢true, or_parts, or_cases, or_right, false_from_ne_true, both_ways}
+use Rattle.std.proofs.lemmas.Bool.{eqb-true, eq-eqb, false≢true, or_parts, false_from_ne_true}
 use Rattle.std.proofs.lemmas.List.Folds.{list_any-append}
 use Rattle.spv_grammar.specs.Roles.{is_defined_id}
-use Rattle.spv_module.specs.Code.{is_line, is_function}
-use Rattle.spv_module.specs.Instruction.{Instruction, IsInstruction, opcode, roles, word_with}
+use Rattle.spv_module.specs.Instruction.{Instruction, word_with}
 use Rattle.spv_meaning.specs.Statements.{Statement}
-use Rattle.spv_meaning.specs.Constants.{Table, Meaning, IsType, IsConstant, meaning, with_entry}
-use Rattle.spv_ids.specs.Ids.{defines, definition, is_defined_before, is_second}
-use Rattle.spv_typing.specs.Kinds.{is_one_of}
+use Rattle.spv_meaning.specs.Constants.{Table, Meaning, meaning, with_entry}
+use Rattle.spv_ids.specs.Ids.{defines, is_defined_before}
 use Rattle.spv_declarations.specs.Broken.{rules_at}
-use Rattle.spv_declarations.specs.Declarations.{Declared, nothing_declared, declare, declare_all, declared_before, says, entry, is_specialised}
-use Rattle.spv_declarations.specs.Sound.{AreInstructions, Unbroken, IsBefore, table_before}
-use Rattle.spv_declarations.proofs.Defining.{entry-gives, GivesMeaning}
+use Rattle.spv_declarations.specs.Declarations.{Declared, nothing_declared, declare, declare_all, declared_before, says, entry}
+use Rattle.spv_declarations.specs.Sound.{AreInstructions, Unbroken, table_before}
+use Rattle.spv_declarations.proofs.Defining.{entry-gives}
 use Rattle.spv_declarations.proofs.Unbroken.{keeps, loud-plain}
 
 -- ---- one instruction more
@@ -105,7 +103,7 @@ pub no_meaning : (insts : List Instruction) → AreInstructions insts → (k id 
 no_meaning insts whole zero id h = refl
 no_meaning insts whole (suc k) id h =
     kept_by insts k id (slice_get insts k) refl (λ i r m at e.
-        sym (defines_result i id r (entry-gives (says insts) (table_before insts k) i r m (whole k i at) e).result) ∙ not_defined_here insts k id i at h)
+    sym (defines_result i id r (entry-gives (says insts) (table_before insts k) i r m (whole k i at) e).result) ∙ not_defined_here insts k id i at h)
     ∙ no_meaning insts whole k id (not_defined insts k id (slice_get insts k) refl h)
 
 -- ---- an id keeps its meaning
@@ -136,7 +134,7 @@ up_to j k le = grind arith
 pub stays-defined : (insts : List Instruction) (j k id : ℕ) → j ≤ k → is_defined_before insts j id ≡ true → is_defined_before insts k id ≡ true
 stays-defined insts j zero id le h = subst (λ (n : ℕ). is_defined_before insts n id ≡ true) (zero_only j le) h
 stays-defined insts j (suc k) id le h = at_either (up_to j k le)
-  (λ less. defined_stays insts k id (slice_get insts k) refl (stays-defined insts j k id less h))
+    (λ less. defined_stays insts k id (slice_get insts k) refl (stays-defined insts j k id less h))
   where
     at_either : (j ≤ k) ⊎ (j ≡ suc k) → ((j ≤ k) → is_defined_before insts (suc k) id ≡ true) → is_defined_before insts (suc k) id ≡ true
     at_either (inl less) f = f less
@@ -154,6 +152,6 @@ keeps_meaning insts whole j (suc k) id le clean h =
     at_either : (j ≤ k) ⊎ (j ≡ suc k) → ((j ≤ k) → meaning (table_before insts k) id ≡ meaning (table_before insts j) id) → meaning (table_before insts (suc k)) id ≡ meaning (table_before insts j) id
     at_either (inl less) f =
         kept_by insts k id (slice_get insts k) refl (λ i r m at e.
-            another insts k id r (stays-defined insts j k id less h) (gives_new insts k i r m whole at (clean k i (omega arith) at) e))
+        another insts k id r (stays-defined insts j k id less h) (gives_new insts k i r m whole at (clean k i (omega arith) at) e))
         ∙ f less
     at_either (inr same) f = ap (λ (n : ℕ). meaning (table_before insts n) id) (sym same)

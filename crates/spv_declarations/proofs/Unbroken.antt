@@ -1,16 +1,12 @@
 -- What an instruction keeps to that breaks no rule.
-use Rattle.std.proofs.Common.{◌≡◌, ℕ, Bool, true, false, cond, not, ◌==◌, ◌&&◌, ◌||◌, List, [], ◌∷◌, ◌++◌, Option, Some, None, refl, sym, ap, subst, ◌∙◌}
-use Rattle.std.specs.List.{list_any, list_all}
-use Rattle.std.specs.Option.{option_map_or}
-use Rattle.std.proofs.lemmas.Bool.{and_parts, not-true, or_parts, not-false}
-use Rattle.spv_opcodes.specs.declared.op.TheConstants as op
-use Rattle.spv_grammar.specs.Roles.{is_defined_id}
-use Rattle.spv_module.specs.Code.{is_line, plain_section}
+use Rattle.std.proofs.Common.{◌≡◌, ℕ, Bool, true, false, cond, not, ◌&&◌, List, [], ◌++◌, None, refl}
+use Rattle.std.proofs.lemmas.Bool.{and_parts, not-true, or_parts}
+use Rattle.spv_module.specs.Code.{is_line}
 use Rattle.spv_module.specs.First.{unless}
-use Rattle.spv_module.specs.Instruction.{Instruction, opcode, word_with}
+use Rattle.spv_module.specs.Instruction.{Instruction, opcode}
 use Rattle.spv_module.proofs.Ids.{first_nil, second_nil}
 use Rattle.spv_meaning.specs.Statements.{is_silent_opcode, is_debug_opcode, is_line_opcode}
-use Rattle.spv_ids.specs.Ids.{id_rules, is_second, names_unknown, is_unknown, is_declaration, is_defined, is_defined_before, used_ids}
+use Rattle.spv_ids.specs.Ids.{id_rules, is_second, names_unknown}
 use Rattle.spv_typing.specs.Types.{type_fits}
 use Rattle.spv_typing.specs.Operations.{spec_op_fits}
 use Rattle.spv_repeats.specs.Repeats.{occurs_before, repeats_before}

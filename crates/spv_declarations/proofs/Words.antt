@@ -1,7 +1,6 @@
 -- Words that are those of a value of a type: as many, each 0 or 1 where it is a boolean's, and else one that a predicate holds of.
-use Rattle.std.proofs.Common.{◌≡◌, ℕ, zero, suc, ◌+◌, ◌*◌, ◌/◌, ◌<◌, ◌≤◌, Bool, true, false, cond, not, ◌==◌, ◌&&◌, ◌||◌, nat_lt, List, [], ◌∷◌, ◌++◌, length, take, drop, replicate, map, Option, Some, None, refl, sym, ap, subst, ◌∙◌, arith}
+use Rattle.std.proofs.Common.{◌≡◌, ℕ, zero, suc, ◌+◌, ◌*◌, ◌/◌, ◌<◌, Bool, true, false, nat_lt, List, [], ◌∷◌, ◌++◌, length, replicate, refl, ap, subst, ◌∙◌, arith}
 use Rattle.std.specs.List.{list_all, slice_index}
-use Rattle.std.specs.Bool.{IsTrue}
 use Rattle.std.proofs.lemmas.List.{length-append}
 use Rattle.std.proofs.lemmas.Bool.{lt-ltb, and_from}
 use Rattle.spv_value.specs.Eval.{AreBooleanWords}
@@ -31,7 +30,7 @@ words-length P [] (w ∷ ws) h = absurd h
 words-length P (b ∷ bs) [] h = absurd h
 words-length P (b ∷ bs) (w ∷ ws) h = ap suc (words-length P bs ws h.1)
 
-zero_word : (P : ℕ → Type 0) → P 0 → (b : Bool) → IsWordOf P b 0
+pub zero_word : (P : ℕ → Type 0) → P 0 → (b : Bool) → IsWordOf P b 0
 zero_word P p true = omega arith
 zero_word P p false = p
 
@@ -47,7 +46,7 @@ one-word P (w ∷ v ∷ ws) e p = absurd (omega (arith, e))
 
 -- ---- as many places as words
 
-length-copies : {X : Type 0} (n : ℕ) (xs : List X) → length (copies n xs) ≡ n * length xs
+pub length-copies : {X : Type 0} (n : ℕ) (xs : List X) → length (copies n xs) ≡ n * length xs
 length-copies zero xs = omega arith
 length-copies (suc n) xs = length-append xs (copies n xs) ∙ copied (length xs) n (length (copies n xs)) (length-copies n xs)
   where
