@@ -1,3 +1,6 @@
 pub mod Room
 pub mod Standing
 pub mod WordLemmas
+pub mod Lengths
+pub mod Members
+pub mod DeclaredTypes
