@@ -3,3 +3,6 @@ pub mod Standing
 pub mod WordLemmas
 pub mod Constituents
 pub mod Reading
+pub mod Lengths
+pub mod Members
+pub mod DeclaredTypes
