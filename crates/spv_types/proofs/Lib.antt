@@ -3,6 +3,9 @@ pub mod Standing
 pub mod WordLemmas
 pub mod Constituents
 pub mod Reading
+pub mod ArrayLengths
+pub mod KnownLengths
+pub mod ConstantRules
 pub mod Lengths
 pub mod Members
 pub mod DeclaredTypes

@@ -137,7 +137,7 @@ fn is_signed(kinds: &Kinds, id: u32) -> bool
 
 /// The length of arrays that is the constant of this id; some number where it is no constant of one word.
 #[tactic(auto, using(crate::proofs::Lengths::length_kept))]
-fn length_of(kinds: &Kinds, meanings: &Meanings, id: u32) -> u32
+pub fn length_of(kinds: &Kinds, meanings: &Meanings, id: u32) -> u32
     ensures { (table : Table) (ids : List ℕ) → StandFor table ids meanings.now.entries → IsLength kinds.now table id → result ≡ length_at table id }
 {
     length_in_word(is_signed(kinds, id), first_word_kept(meanings.get(&id)))
