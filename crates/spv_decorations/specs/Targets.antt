@@ -1,5 +1,5 @@
 -- 306 BadDecoration, but for what stands twice: each decoration stands on a target that takes it.
-use Rattle.std.specs.Prelude.{ℕ, Bool, true, false, cond, ◌==◌, ◌&&◌, ◌||◌, nat_lt, List, [], ◌∷◌, length, slice_index}
+use Rattle.std.specs.Prelude.{ℕ, Bool, true, cond, ◌==◌, ◌&&◌, ◌||◌, nat_lt, List, [], ◌∷◌, length, slice_index}
 use Rattle.spv_opcodes.specs.declared.op.TheConstants as op
 use Rattle.spv_opcodes.specs.declared.decoration.TheConstants as decoration
 use Rattle.spv_opcodes.specs.declared.builtin.TheConstants as builtin
