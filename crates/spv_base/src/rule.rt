@@ -53,3 +53,9 @@ pub const MISSING_ENTRY_POINT: u16 = 204;
 
 /// A function or a block begins, ends or has an instruction where it may not.
 pub const FUNCTION_SHAPE: u16 = 205;
+
+/// An id is defined twice.
+pub const ID_TWICE: u16 = 301;
+
+/// An id that is named is defined nowhere, or by no instruction before a declaration that names it.
+pub const ID_UNKNOWN: u16 = 302;

@@ -1,5 +1,5 @@
 -- The rules on ids, from the places of definitions.
-use Rattle.std.proofs.Common.{◌≡◌, ℕ, Bool, true, false, cond, ◌&&◌, ◌||◌, not, nat_lt, nat_le, List, [], ◌∷◌, map, take, Option, Some, None, refl, sym, ap, ◌∙◌, arith}
+use Rattle.std.proofs.Common.{◌≡◌, ℕ, Bool, true, false, cond, ◌&&◌, ◌||◌, not, nat_lt, nat_le, List, [], ◌∷◌, map, Option, Some, None, refl, sym, ap, ◌∙◌, arith}
 use Rattle.std.specs.List.{filter, list_any, zip}
 use Rattle.std.specs.Option.{is_some, option_map_or}
 use Rattle.std.proofs.lemmas.Bool.Decides.{nat_tests}
@@ -7,7 +7,7 @@ use Rattle.spv_grammar.specs.declared.kind.Role.{Role}
 use Rattle.spv_grammar.specs.Operands.{roles_of}
 use Rattle.spv_grammar.specs.Roles.{is_defined_id}
 use Rattle.spv_module.specs.Instruction.{Instruction, parts, word_with}
-use Rattle.spv_ids.specs.Ids.{defines, place_of, is_defined_before, is_second, is_unknown, is_needed, names_unknown, used_ids}
+use Rattle.spv_ids.specs.Ids.{defines, place_of, is_defined_before, is_second, is_unknown, is_needed, used_ids}
 use Rattle.spv_ids.proofs.Places.{any-take, any-position}
 
 -- a second definition, from the place of the first

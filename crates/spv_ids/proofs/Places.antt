@@ -1,9 +1,8 @@
 -- The first place where a test passes.
-use Rattle.std.proofs.Common.{◌≡◌, ℕ, zero, suc, ◌+◌, ◌<◌, Bool, true, false, cond, ◌||◌, not, nat_lt, List, [], ◌∷◌, ◌++◌, length, take, Option, Some, None, refl, sym, ap, ◌∙◌, arith}
+use Rattle.std.proofs.Common.{◌≡◌, ℕ, zero, suc, ◌+◌, Bool, true, false, cond, ◌||◌, not, nat_lt, List, [], ◌∷◌, ◌++◌, length, take, Option, Some, None, refl, sym, ap, ◌∙◌, arith}
 use Rattle.std.specs.List.{find, list_any, position, position_or_len, slice_get}
 use Rattle.std.specs.Option.{is_some, option_map, option_map_or, option_or}
 use Rattle.std.proofs.lemmas.Bool.Decides.{nat_tests}
-use Rattle.std.proofs.lemmas.List.Folds.{find_at}
 
 -- the place behind one element more
 one_on : (b : Bool) (n len : ℕ) → cond (nat_lt (cond (not b) (1 + n) 0) (suc len)) (Some (cond (not b) (1 + n) 0)) None ≡ cond b (Some 0) (option_map (λ k. suc k) (cond (nat_lt n len) (Some n) None))
@@ -29,10 +28,6 @@ position-push p (x ∷ xs) y =
     ∙ push_cons (p x) (p y) (length xs) (position p xs)
     ∙ sym (ap (λ (place : Option ℕ). option_or place (cond (p y) (Some (suc (length xs))) None)) (position-cons p x xs))
 
--- whether an element in front passes, from the first place
-pub is_before : ℕ → Option ℕ → Bool
-is_before k place = option_map_or (λ n. nat_lt n k) place false
-
 none_before : (place : Option ℕ) → false ≡ option_map_or (λ n. nat_lt n 0) place false
 none_before None = refl
 none_before (Some n) = grind (arith, nat_tests)
@@ -42,7 +37,7 @@ before_cons true k place = grind (arith, nat_tests)
 before_cons false k None = refl
 before_cons false k (Some n) = grind (arith, nat_tests)
 
--- induction on the elements
+-- whether one of the elements in front passes; induction on the elements
 pub any-take : {X : Type 0} (p : X → Bool) (xs : List X) (k : ℕ) → list_any p (take k xs) ≡ option_map_or (λ n. nat_lt n k) (position p xs) false
 any-take p [] zero = refl
 any-take p [] (suc k) = refl
@@ -57,7 +52,7 @@ some_cons true place = refl
 some_cons false None = refl
 some_cons false (Some n) = refl
 
--- induction on the elements
+-- whether one of all elements passes; induction on the elements
 pub any-position : {X : Type 0} (p : X → Bool) (xs : List X) → list_any p xs ≡ is_some (position p xs)
 any-position p [] = refl
 any-position p (x ∷ xs) =

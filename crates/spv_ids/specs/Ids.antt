@@ -1,5 +1,5 @@
 -- Ids: which instruction defines one, what is said of it there, and the rules that each id is defined once and that what is named is defined.
-use Rattle.std.specs.Prelude.{ℕ, Bool, true, false, cond, ◌==◌, ◌&&◌, ◌||◌, not, nat_eq, List, [], ◌∷◌, ◌++◌, map, filter, find, position, take, drop, slice_index, Option, Some, None}
+use Rattle.std.specs.Prelude.{ℕ, Bool, false, cond, ◌==◌, ◌&&◌, ◌||◌, not, nat_eq, List, [], ◌++◌, map, filter, find, position, take, drop, slice_index, Option}
 use Rattle.std.specs.List.{list_any, zip}
 use Rattle.std.specs.Option.{option_map_or}
 use Rattle.spv_grammar.specs.declared.kind.Role.{Role}
@@ -44,10 +44,11 @@ is_needed role = is_type_id role || is_used_id role
 abbrev pub used_ids : Instruction → List ℕ
 used_ids i = words_with is_needed i
 
--- some instruction defines the id, or one before the k-th does
+-- some instruction defines the id
 abbrev pub is_defined : List Instruction → (id : ℕ) → Bool
 is_defined insts id = list_any (defines id) insts
 
+-- an instruction before the k-th defines the id
 abbrev pub is_defined_before : List Instruction → (k id : ℕ) → Bool
 is_defined_before insts k id = is_defined (take k insts) id
 
@@ -60,10 +61,11 @@ is_declaration begun i = not begun && plain_section false i == section.DECLARATI
 abbrev pub is_second : List Instruction → (k : ℕ) → Instruction → Bool
 is_second insts k i = option_map_or (is_defined_before insts k) (word_with is_defined_id i) false
 
--- 302 IdUnknown: it names an id that nothing defines; or it is a declaration and names one that no instruction before the k-th defines
+-- nothing defines the id; or it has to be defined early, and no instruction before the k-th defines it
 abbrev pub is_unknown : List Instruction → (early : Bool) (k id : ℕ) → Bool
 is_unknown insts early k id = not (is_defined insts id) || (early && not (is_defined_before insts k id))
 
+-- 302 IdUnknown: it names an id that nothing defines; or it is a declaration and names one that no instruction before the k-th defines
 abbrev pub names_unknown : List Instruction → (begun : Bool) → (k : ℕ) → Instruction → Bool
 names_unknown insts begun k i = list_any (is_unknown insts (is_declaration begun i) k) (used_ids i)
 

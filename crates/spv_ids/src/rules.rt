@@ -5,16 +5,11 @@ ghost use Rattle.spv_module.specs.View.{seen};
 ghost use Rattle.spv_ids.specs.Ids.{is_needed as needed, is_declaration as declaration, is_second as second, is_unknown as unknown, names_unknown as unknown_named, id_rules};
 
 use crate::definitions::Definitions;
+use spv_base::rule;
 use spv_grammar::kind::Role;
 use spv_grammar::section;
 use spv_module::View;
 use spv_module::layout::{is_line, plain_section};
-
-/// An id is defined twice.
-pub const ID_TWICE: u16 = 301;
-
-/// An id that is named is not defined, or not before a declaration that names it.
-pub const ID_UNKNOWN: u16 = 302;
 
 /// Whether the word is the id of the result's type or of an operand.
 fn is_needed(role: Role) -> bool
@@ -83,9 +78,9 @@ pub fn broken_id_rule(definitions: &Definitions, begun: bool, k: u32, inst: &Vie
     if is_line(inst) {
         None
     } else if is_second(definitions, k, inst) {
-        Some(ID_TWICE)
+        Some(rule::ID_TWICE)
     } else if names_unknown(definitions, begun, k, inst) {
-        Some(ID_UNKNOWN)
+        Some(rule::ID_UNKNOWN)
     } else {
         None
     }

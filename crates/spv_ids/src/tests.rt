@@ -1,8 +1,8 @@
 ghost use Rattle.std.specs.Prelude.{◌≡◌, IfOk};
 ghost use Rattle.spv_ids.specs.Ids.{kind};
 
-use crate::rules::{ID_TWICE, ID_UNKNOWN};
 use crate::{Definitions, broken_id_rule};
+use spv_base::rule::{ID_TWICE, ID_UNKNOWN};
 use spv_module::{Flat, NoMemory, decode};
 use spv_opcodes::op;
 use std::alloc::Global;
@@ -109,7 +109,7 @@ fn kind_in(alloc: Global, flat: &Flat, id: u32) -> Result<u16, NoMemory>
 
 #[test]
 fn the_rules_on_ids_are_told(rt: HostRuntime) -> Result<(), Fail> {
-    let cases: [(&str, usize, u32, &[(u32, u16)]); 11] = [
+    let cases: [(&str, usize, u32, &[(u32, u16)]); 12] = [
         ("as it is", 0, ADDING[0], &[]),
         ("a second definition", 50, 6, &[(12, ID_TWICE)]),
         (
@@ -131,6 +131,7 @@ fn the_rules_on_ids_are_told(rt: HostRuntime) -> Result<(), Fail> {
             9,
             &[(9, ID_UNKNOWN)],
         ),
+        ("a function of a type that is defined in it", 45, 8, &[]),
         ("a sum of itself", 51, 8, &[]),
         (
             "a sum of an id that nothing defines",
