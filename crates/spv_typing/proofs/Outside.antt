@@ -45,13 +45,13 @@ pub outside-found : (insts : List Instruction) (k : ℕ) (i : Instruction) → A
     k ≡ position_or_len is_function insts
 outside-found insts k i so_far fits at begins =
     let none : position_or_len is_function (drop k insts) ≡ 0 =
-        prefix_len-drop_no (λ (j : Instruction). not (is_function j)) insts k i fits (begins_none i (get_or insts k i) true (get_or_from_slice_get insts k i i at) begins) in
+    prefix_len-drop_no (λ (j : Instruction). not (is_function j)) insts k i fits (begins_none i (get_or insts k i) true (get_or_from_slice_get insts k i i at) begins) in
     omega arith
 
 pub outside-more : (insts : List Instruction) (k : ℕ) (i : Instruction) → AreOutside insts k → k < length insts → slice_get insts k ≡ Some i → is_function i ≡ false → AreOutside insts (k + 1)
 outside-more insts k i so_far fits at begins =
     let more : position_or_len is_function (drop k insts) ≡ 1 + position_or_len is_function (drop (k + 1) insts) =
-        prefix_len-drop_yes (λ (j : Instruction). not (is_function j)) insts k i fits (begins_none i (get_or insts k i) false (get_or_from_slice_get insts k i i at) begins) in
+    prefix_len-drop_yes (λ (j : Instruction). not (is_function j)) insts k i fits (begins_none i (get_or insts k i) false (get_or_from_slice_get insts k i i at) begins) in
     omega arith
 
 pub outside-all : (insts : List Instruction) (k : ℕ) → AreOutside insts k → k ≡ length insts → length insts ≡ position_or_len is_function insts

@@ -42,13 +42,13 @@ abbrev pub part_along : List Instruction → (literals : List ℕ) → (t : ℕ)
 part_along insts [] t = Some t
 part_along insts (index ∷ rest) t = part_behind (part_along insts rest) (part_at insts t index)
 
--- one or more literals lead from one type to the other
-abbrev pub is_type : (t : ℕ) → Option ℕ → Bool
-is_type t None = false
-is_type t (Some u) = u == t
+abbrev pub leads_to : (t : ℕ) → Option ℕ → Bool
+leads_to t None = false
+leads_to t (Some u) = u == t
 
-abbrev pub lead_to : List Instruction → (literals : List ℕ) → (from to : ℕ) → Bool
-lead_to insts literals from to = nat_lt 0 (length literals) && is_type to (part_along insts literals from)
+-- one or more literals lead from one type to the other
+abbrev pub literals_lead : List Instruction → (literals : List ℕ) → (from to : ℕ) → Bool
+literals_lead insts literals from to = nat_lt 0 (length literals) && leads_to to (part_along insts literals from)
 
 -- the operations that OpSpecConstantOp may name
 abbrev pub spec_operations : List (ℕ × Form)
@@ -109,11 +109,11 @@ shuffle_fits insts t a b literals =
     && (is_vector_of insts (component insts t) b && (length literals == component_count insts t && all_pick (components_of insts a b) literals)))
 
 abbrev pub extract_fits : List Instruction → (t composite : ℕ) → (literals : List ℕ) → Bool
-extract_fits insts t c literals = is_some (shape insts t) && (is_constant insts c && lead_to insts literals (type_of insts c) t)
+extract_fits insts t c literals = is_some (shape insts t) && (is_constant insts c && literals_lead insts literals (type_of insts c) t)
 
 abbrev pub insert_fits : List Instruction → (t object composite : ℕ) → (literals : List ℕ) → Bool
 insert_fits insts t o c literals =
-    is_some (shape insts t) && (is_constant insts o && (has_type insts t c && lead_to insts literals t (type_of insts o)))
+    is_some (shape insts t) && (is_constant insts o && (has_type insts t c && literals_lead insts literals t (type_of insts o)))
 
 -- the operands are constants and fit, and so does the result's type, which is a scalar or a vector
 abbrev pub operands_fit : List Instruction → Form → (t : ℕ) → (operands : List ℕ) → Bool
@@ -131,6 +131,6 @@ form_fits insts None t ids = false
 form_fits insts (Some form) t ids = operands_fit insts form t ids
 
 -- an OpSpecConstantOp names an operation of these, which its operands and its result's type fit; every other instruction passes
-abbrev pub spec_op_fits : List Instruction → Instruction → Bool
+unfoldable pub spec_op_fits : List Instruction → Instruction → Bool
 spec_op_fits insts i =
     not (opcode i == op.SPEC_CONSTANT_OP) || form_fits insts (form_of (slice_index i.words 3)) (slice_index i.words 1) (drop 4 i.words)

@@ -143,9 +143,7 @@ fn is_vector_of(kinds: &Kinds, component: u32, id: u32) -> bool
 fn all_pick(components: u64, literals: &[u32]) -> bool
     ensures { result ≡ operations.all_pick components literals.now }
 {
-    literals
-        .iter()
-        .all(|literal| u64::from(*literal) < components || *literal == NO_COMPONENT)
+    literals.iter().all(|literal| u64::from(*literal) < components || *literal == NO_COMPONENT)
 }
 
 /// How many components two constant vectors have.
@@ -195,8 +193,8 @@ fn part_along(kinds: &Kinds, literals: &[u32], t: u32) -> Option<u32>
 }
 
 /// Whether one or more literals lead from one type to the other.
-fn lead_to(kinds: &Kinds, literals: &[u32], from: u32, to: u32) -> bool
-    ensures { result ≡ operations.lead_to kinds.now literals.now from to }
+fn literals_lead(kinds: &Kinds, literals: &[u32], from: u32, to: u32) -> bool
+    ensures { result ≡ operations.literals_lead kinds.now literals.now from to }
 {
     !literals.is_empty() && part_along(kinds, literals, from) == Some(to)
 }
@@ -207,7 +205,7 @@ fn extract_fits(kinds: &Kinds, t: u32, composite: u32, literals: &[u32]) -> bool
 {
     kinds.shape(t).is_some()
         && kinds.is_constant(composite)
-        && lead_to(kinds, literals, kinds.type_of(composite), t)
+        && literals_lead(kinds, literals, kinds.type_of(composite), t)
 }
 
 /// Whether a constant with another in place of the part that literals lead to is a result of this type.
@@ -217,7 +215,7 @@ fn insert_fits(kinds: &Kinds, t: u32, object: u32, composite: u32, literals: &[u
     kinds.shape(t).is_some()
         && kinds.is_constant(object)
         && kinds.has_type(t, composite)
-        && lead_to(kinds, literals, t, kinds.type_of(object))
+        && literals_lead(kinds, literals, t, kinds.type_of(object))
 }
 
 fn selects_fit(kinds: &Kinds, t: u32, operands: &[u32]) -> bool
@@ -273,6 +271,7 @@ fn operands_fit(kinds: &Kinds, form: Form, t: u32, operands: &[u32]) -> bool
 
 /// Whether an OpSpecConstantOp names an operation that it may, on constants that suit it, with a result that
 /// suits it: a scalar or a vector. Every other instruction fits.
+#[tactic(auto, unfolding(crate::specs::Operations::spec_op_fits))]
 pub fn spec_op_fits(kinds: &Kinds, inst: &View) -> bool
     ensures { result ≡ operations.spec_op_fits kinds.now (seen inst.now) }
 {
