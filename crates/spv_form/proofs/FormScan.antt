@@ -40,14 +40,16 @@ unfolding first_outside
 look-begins end insts h = record { place = 5; rises = h; stands = record { has_function = refl; has_label = refl }; same = refl }
 
 -- what is found from an instruction on comes no earlier than it; induction on the instructions
-outside_later : (end n : ℕ) (before insts : List Instruction) (behind : List Refusal) → RisesTo end n insts → Later end behind → Later n (outside_from before insts ++ behind)
+outside_later : (end n : ℕ) (before insts : List Instruction) (behind : List Refusal) →
+    RisesTo end n insts → Later end behind → Later n (outside_from before insts ++ behind)
 unfolding outside_from
 outside_later end n before [] behind h later = Later-weaken n end behind h later
 outside_later end n before (i ∷ insts) behind h later =
     let rest = outside_from (before ++ i ∷ []) insts in
     rw (append_assoc (here i.offset (form_rule before i)) rest behind)
     (Later-append n (here i.offset (form_rule before i)) (rest ++ behind) (Later-here n i.offset (form_rule before i) h.0)
-    (Later-weaken n (suc i.offset) (rest ++ behind) (omega (arith, h.0)) (outside_later end (suc i.offset) (before ++ i ∷ []) insts behind h.1 later)))
+    (Later-weaken n (suc i.offset) (rest ++ behind) (omega (arith, h.0))
+    (outside_later end (suc i.offset) (before ++ i ∷ []) insts behind h.1 later)))
 
 -- an instruction that stands outside the form comes before what is found later
 found_here : (outside : Bool) (at : ℕ) (rest behind : List Refusal) → Later (suc at) (rest ++ behind) →
@@ -68,31 +70,36 @@ or_assoc None b c = refl
 or_assoc (Some x) b c = refl
 
 -- what is kept tells whether an instruction stands outside the form
-kept_outside-stands : (kept : Before) (before : List Instruction) (i : Instruction) → StandsFor kept before → kept_outside kept i ≡ is_outside_form before i
+kept_outside-stands : (kept : Before) (before : List Instruction) (i : Instruction) → StandsFor kept before →
+    kept_outside kept i ≡ is_outside_form before i
 kept_outside-stands kept before i s = rw (s.has_function, s.has_label) refl
 
 or_false : (b : Bool) → (b || false) ≡ b
 or_false true = refl
 or_false false = refl
 
-any_push : (p : Instruction → Bool) (before : List Instruction) (i : Instruction) (b : Bool) → b ≡ list_any p before → (b || p i) ≡ list_any p (before ++ i ∷ [])
+pub any_push : (p : Instruction → Bool) (before : List Instruction) (i : Instruction) (b : Bool) → b ≡ list_any p before →
+    (b || p i) ≡ list_any p (before ++ i ∷ [])
 any_push p before i b e =
     ap (λ (t : Bool). t || p i) e ∙ ap (λ (t : Bool). list_any p before || t) (sym (or_false (p i))) ∙ sym (list_any-append p before (i ∷ []))
 
-stands-push : (kept : Before) (before : List Instruction) (i : Instruction) → StandsFor kept before → StandsFor (kept_behind kept i) (before ++ i ∷ [])
+stands-push : (kept : Before) (before : List Instruction) (i : Instruction) → StandsFor kept before →
+    StandsFor (kept_behind kept i) (before ++ i ∷ [])
 stands-push kept before i s = record {
   has_function = any_push is_function before i kept.has_function s.has_function;
   has_label = any_push is_label before i kept.has_label s.has_label;
 }
 
 -- one instruction more
-pub look-step : (end : ℕ) (insts : List Instruction) (k : ℕ) (i : Instruction) (kept : Before) (found : Option Refusal) → IsLookedTo end insts k kept found → k < length insts → slice_get insts k ≡ Some i →
+pub look-step : (end : ℕ) (insts : List Instruction) (k : ℕ) (i : Instruction) (kept : Before) (found : Option Refusal) →
+    IsLookedTo end insts k kept found → k < length insts → slice_get insts k ≡ Some i →
     IsLookedTo end insts (k + 1) (kept_behind kept i) (option_or found (refused (kept_outside kept i) i.offset))
 look-step end insts k i kept found l fits at =
     let before = take k insts in
     let after = drop (k + 1) insts in
     let takes = take-at insts k i fits at in
     let drops = drop-at insts k i fits at in
+    let later = found_from end (before ++ i ∷ []) insts after in
     let rises : RisesTo end l.place (i ∷ after) = subst (RisesTo end l.place) drops l.rises in
     record {
       place = suc i.offset;
@@ -101,9 +108,10 @@ look-step end insts k i kept found l fits at =
       same = l.same
           ∙ ap (λ (rest : List Instruction). option_or found (found_from end before insts rest)) drops
           ∙ ap (option_or found) (found_from-cons end before insts i after rises.1)
-          ∙ or_assoc found (refused (is_outside_form before i) i.offset) (found_from end (before ++ i ∷ []) insts after)
-          ∙ ap (λ (b : Bool). option_or (option_or found (refused b i.offset)) (found_from end (before ++ i ∷ []) insts after)) (sym (kept_outside-stands kept before i l.stands))
-          ∙ ap (λ (front : List Instruction). option_or (option_or found (refused (kept_outside kept i) i.offset)) (found_from end front insts after)) (sym takes);
+          ∙ or_assoc found (refused (is_outside_form before i) i.offset) later
+          ∙ ap (λ (b : Bool). option_or (option_or found (refused b i.offset)) later) (sym (kept_outside-stands kept before i l.stands))
+          ∙ ap (λ (front : List Instruction). option_or (option_or found (refused (kept_outside kept i) i.offset)) (found_from end front insts after))
+          (sym takes);
     }
 
 none_at_end : (b : Bool) (end : ℕ) → first (here end (unless b 190)) ≡ cond b None (Some (record { rule = 190; at = end }))
@@ -111,7 +119,8 @@ none_at_end true end = refl
 none_at_end false end = refl
 
 -- the answer, from what was found and kept of all instructions
-pub look-ends : (end : ℕ) (insts : List Instruction) (k : ℕ) (kept : Before) (found : Option Refusal) → length insts ≤ k → IsLookedTo end insts k kept found →
+pub look-ends : (end : ℕ) (insts : List Instruction) (k : ℕ) (kept : Before) (found : Option Refusal) →
+    length insts ≤ k → IsLookedTo end insts k kept found →
     option_or found (cond kept.has_function None (Some (record { rule = 190; at = end }))) ≡ first_outside end insts
 unfolding outside_from
 look-ends end insts k kept found past l =

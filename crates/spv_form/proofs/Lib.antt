@@ -1,3 +1,4 @@
 pub mod Places
 pub mod Greatest
 pub mod FormScan
+pub mod FormLaw

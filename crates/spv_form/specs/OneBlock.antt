@@ -1,8 +1,8 @@
 -- The one-block form, a rule of this optimiser and not of SPIR-V: there is one OpFunction, with one block (one OpLabel), and no OpPhi, no
 -- OpFunctionCall and no terminator other than OpReturn. Line marks are none of these. In a module that breaks no rule on the layout, a function
 -- has a block.
-use Rattle.std.specs.Prelude.{ℕ, Bool, ◌==◌, ◌&&◌, ◌||◌, not, if◌then◌else◌, List, [], ◌∷◌, ◌++◌, Option}
-use Rattle.std.specs.List.{list_any}
+use Rattle.std.specs.Prelude.{◌≡◌, ◌≤◌, ℕ, Bool, false, ◌==◌, ◌&&◌, ◌||◌, not, if◌then◌else◌, List, [], ◌∷◌, ◌++◌, Option}
+use Rattle.std.specs.List.{count_by, list_any}
 use Rattle.spv_base.specs.declared.fault.Refusal.{Refusal}
 use Rattle.spv_opcodes.specs.declared.op.TheConstants as op
 use Rattle.spv_module.specs.Code.{is_function}
@@ -20,6 +20,12 @@ is_other_terminator i = is_terminator i && not (opcode i == op.RETURN)
 -- an instruction that no module of the form has
 abbrev pub is_never_in_form : Instruction → Bool
 is_never_in_form i = opcode i == op.PHI || opcode i == op.FUNCTION_CALL || is_other_terminator i
+
+-- a module of the form: it has one function, no second label, and none of these
+pub record IsOneBlock (insts : List Instruction) : Type 0 where
+  pub functions : count_by is_function insts ≡ 1
+  pub labels : count_by is_label insts ≤ 1
+  pub others : list_any is_never_in_form insts ≡ false
 
 -- the function is not the first one: one stands before it
 abbrev pub is_later_function : (before : List Instruction) → Instruction → Bool
@@ -45,6 +51,7 @@ outside_from before (i ∷ is) = here i.offset (form_rule before i) ++ outside_f
 abbrev pub function_rule : List Instruction → List ℕ
 function_rule insts = unless (list_any is_function insts) 190
 
--- the first place at which a module is not of the form; `end` is the place behind the last word
+-- the first place at which a module is not of the form, which is none exactly where it is (`first_outside-none`); `end` is the place behind the
+-- last word
 unfoldable pub first_outside : (end : ℕ) → List Instruction → Option Refusal
 first_outside end insts = first (outside_from [] insts ++ here end (function_rule insts))
