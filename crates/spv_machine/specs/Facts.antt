@@ -7,6 +7,7 @@ use Rattle.spv_opcodes.specs.declared.builtin.TheConstants as builtin
 use Rattle.spv_opcodes.specs.declared.storage_class.TheConstants as storage_class
 use Rattle.spv_meaning.specs.Statements as says
 use Rattle.spv_meaning.specs.Statements.{Statement}
+use Rattle.spv_meaning.specs.Computations.{Evaluates}
 use Rattle.spv_meaning.specs.Types.{DataType, Integer, Vector, RuntimeArray, Struct, NoMember, Member}
 use Rattle.spv_machine.specs.Places.{Triple, Memory, Buffer, Place, object_at}
 use Rattle.spv_machine.specs.Access.{Action, Loads, Stores, Atomics, Access}
@@ -169,7 +170,7 @@ calling =
     ∷ says.Label 7
     ∷ says.Variable 23 8 storage_class.FUNCTION []
     ∷ says.Load 20 9 8 []
-    ∷ says.Operation op.I_ADD 20 13 (9 ∷ 6 ∷ [])
+    ∷ says.Operation (Evaluates op.I_ADD) 20 13 (9 ∷ 6 ∷ [])
     ∷ says.Store 8 13 []
     ∷ says.Load 20 14 8 []
     ∷ says.ReturnValue 14
