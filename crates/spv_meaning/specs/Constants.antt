@@ -1,5 +1,5 @@
 -- What ids outside functions stand for, under a specialisation: types, constants and variables.
-use Rattle.std.specs.Prelude.{ℕ, suc, map, true, cond, ◌==◌, ◌&&◌, nat_eq, List, [], ◌∷◌, ◌++◌, replicate, slice_index, Option, Some, None, is_some}
+use Rattle.std.specs.Prelude.{ℕ, suc, map, true, cond, ◌==◌, ◌&&◌, nat_eq, List, [], ◌∷◌, ◌++◌, slice_index, Option, Some, None, is_some}
 use Rattle.std.specs.Map.{lookup}
 use Rattle.std.specs.Option.{unwrap_or, option_map}
 use Rattle.spv_opcodes.specs.declared.decoration.TheConstants as decoration
@@ -7,7 +7,8 @@ use Rattle.spv_opcodes.specs.declared.storage_class.TheConstants as storage_clas
 use Rattle.spv_meaning.specs.Statements as says
 use Rattle.spv_meaning.specs.Statements.{Statement}
 use Rattle.spv_meaning.specs.Computations.{Typed, no_value, computed}
-use Rattle.spv_meaning.specs.Types.{DataType, Void, Boolean, Integer, Vector, Array, RuntimeArray, Struct, Members, NoMember, Member, cells, booleans, number_in, not_negative, fitted}
+pub use Rattle.spv_meaning.specs.Types.{zeros}
+use Rattle.spv_meaning.specs.Types.{DataType, Void, Boolean, Integer, Vector, Array, RuntimeArray, Struct, Members, NoMember, Member, booleans, number_in, not_negative, fitted}
 
 -- words for constants by their SpecId; of two of one number the first counts
 abbrev pub Specialisation : Type 0
@@ -96,9 +97,6 @@ members_of all table id number (t ∷ ts) =
 abbrev pub composed : Table → List ℕ → List ℕ
 composed table [] = []
 composed table (id ∷ ids) = words_at table id ++ composed table ids
-
-abbrev pub zeros : DataType → List ℕ
-zeros t = replicate (cells t) 0
 
 -- the words of a constant with a SpecId: those given, else its own
 abbrev pub given : (spec_id : Option (List ℕ)) → Specialisation → DataType → (default : List ℕ) → List ℕ

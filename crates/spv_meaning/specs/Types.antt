@@ -1,5 +1,5 @@
 -- Types of values, and the words of a value: how many they are, which are booleans, and at which positions they lie.
-use Rattle.std.specs.Prelude.{ℕ, zero, suc, ◌+◌, ◌*◌, ◌/◌, ◌%◌, ◌^◌, Bool, true, false, cond, ◌==◌, nat_lt, List, [], ◌∷◌, ◌++◌, map, length, Option, Some, None}
+use Rattle.std.specs.Prelude.{ℕ, zero, suc, ◌+◌, ◌*◌, ◌/◌, ◌%◌, ◌^◌, Bool, true, false, cond, ◌==◌, nat_lt, List, [], ◌∷◌, ◌++◌, map, replicate, length, Option, Some, None}
 
 -- The stride of an array and the offset of a member are in bytes, where a decoration gives them. A member may be volatile.
 mutual
@@ -41,6 +41,10 @@ abbrev mutual
   pub member_cells : Members → ℕ
   member_cells NoMember = 0
   member_cells (Member offset volatile t rest) = cells t + member_cells rest
+
+-- what a value is that nothing was put into
+abbrev pub zeros : DataType → List ℕ
+zeros t = replicate (cells t) 0
 
 -- which words of a value are booleans
 abbrev mutual
