@@ -10,6 +10,8 @@ use Rattle.spv_meaning.specs.Computations.{Evaluates, Constructs, Extracts, Inse
 use Rattle.spv_machine.specs.Places.{Triple}
 use Rattle.spv_machine.specs.Access.{Access}
 use Rattle.spv_machine.specs.Dispatch.{Bound, Dispatch}
+use Rattle.spv_machine.specs.Setting.{setting}
+use Rattle.spv_machine.specs.Machine.{trace_in}
 use Rattle.spv_machine.specs.Doubling.{on}
 
 abbrev pub triple : (x y z : ℕ) → Triple
@@ -25,7 +27,7 @@ handed accesses = map (λ a. a.operands) accesses
 
 -- ---- invocations that share a buffer and a Workgroup variable
 
--- invocation i, whose number is 11, has word i of the buffer at 12, word 2 at 13, and a Workgroup variable at 7; its workgroup has so many invocations
+-- the number of an invocation is 11, its own word of the buffer is at 12, and a Workgroup variable at 7; a workgroup has so many invocations
 abbrev pub sharing : (size : ℕ) → (body : List Statement) → List Statement
 sharing size body =
     says.EntryPoint 1 (codes "main")
@@ -53,12 +55,16 @@ sharing size body =
     ∷ says.AccessChain 24 10 5 (30 ∷ [])
     ∷ says.Load 20 11 10 []
     ∷ says.AccessChain 22 12 6 (30 ∷ 11 ∷ [])
-    ∷ says.AccessChain 22 13 6 (30 ∷ 32 ∷ [])
     ∷ body ++ (says.Return ∷ says.FunctionEnd ∷ [])
 
 -- each adds 1 to word 2 and stores what was there in its own word
 abbrev pub counting : List Statement
-counting = sharing 2 (says.Atomic op.ATOMIC_I_ADD (20 ∷ []) (14 ∷ []) 13 31 (30 ∷ []) (31 ∷ []) ∷ says.Store 12 14 [] ∷ [])
+counting =
+    sharing 2
+    (says.AccessChain 22 13 6 (30 ∷ 32 ∷ [])
+    ∷ says.Atomic op.ATOMIC_I_ADD (20 ∷ []) (14 ∷ []) 13 31 (30 ∷ []) (31 ∷ [])
+    ∷ says.Store 12 14 []
+    ∷ [])
 
 -- each stores what it finds in the Workgroup variable in its own word, and leaves 2 there
 abbrev pub finding : (size : ℕ) → List Statement
@@ -73,6 +79,11 @@ meeting =
     ∷ says.Load 20 15 7 []
     ∷ says.Store 12 15 []
     ∷ [])
+
+-- what the only invocation hands over within twelve instructions, under a specialisation
+abbrev pub stored_under : List (ℕ × List ℕ) → List Statement → List (List ℕ)
+stored_under specialisation all =
+    handed (trace_in (setting all (record (on (0 ∷ [])) { specialisation = specialisation })) 0 12 ([] ∷ [] ∷ [] ∷ [])).accesses
 
 -- ---- memories
 
@@ -121,7 +132,10 @@ put_in_function =
 abbrev pub nine_words : List ℕ
 nine_words = 1 ∷ 2 ∷ 3 ∷ 4 ∷ 5 ∷ 6 ∷ 7 ∷ 8 ∷ 9 ∷ []
 
--- as a uniform block at the variable's set and binding, or as push constants
+-- as a buffer or a uniform block at the variable's set and binding, or as push constants
+abbrev pub in_a_buffer : Dispatch
+in_a_buffer = record (on []) { buffers = record { set = 2; binding = 3; words = nine_words } ∷ record { set = 0; binding = 0; words = 0 ∷ [] } ∷ [] }
+
 abbrev pub in_a_block : Dispatch
 in_a_block = record (on (0 ∷ [])) { uniforms = record { set = 2; binding = 3; words = nine_words } ∷ [] }
 
@@ -172,6 +186,7 @@ valued functions =
     ∷ says.ConstantComposite 43 37 (31 ∷ 32 ∷ [])
     ∷ says.ConstantComposite 44 38 (33 ∷ 37 ∷ [])
     ∷ says.ConstantNull 44 39
+    ∷ says.ConstantComposite 42 41 (31 ∷ 32 ∷ [])
     ∷ says.TypePointer 22 storage_class.STORAGE_BUFFER 20
     ∷ says.TypePointer 23 storage_class.PRIVATE 20
     ∷ says.TypePointer 24 storage_class.PRIVATE 44
