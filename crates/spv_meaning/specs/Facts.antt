@@ -1,12 +1,23 @@
 -- What the definitions are tried on.
-use Rattle.std.specs.Prelude.{ℕ, true, false, List, [], ◌∷◌, Option, Some, None}
+use Rattle.std.specs.Prelude.{ℕ, true, false, not, ◌||◌, nat_eq, List, [], ◌∷◌, ◌++◌, map, filter, Option, Some, None, is_some}
+use Rattle.std.specs.Map.{lookup}
 use Rattle.spv_opcodes.specs.declared.op.TheConstants as op
 use Rattle.spv_opcodes.specs.declared.decoration.TheConstants as decoration
+use Rattle.spv_grammar.specs.Table as grammar
 use Rattle.spv_module.specs.Code.{Code, code_of}
 use Rattle.spv_meaning.specs.Statements as says
-use Rattle.spv_meaning.specs.Statements.{Statement}
+use Rattle.spv_meaning.specs.Statements.{Statement, rows, is_silent_opcode}
 use Rattle.spv_meaning.specs.Computations.{Evaluates, Extracts, Typed}
 use Rattle.spv_meaning.specs.Types.{DataType, Boolean, Integer, Vector, Array, Struct, Member, NoMember}
+
+-- ---- rows
+
+-- the opcodes of the instruction table that have no row here and are not silent
+abbrev pub without_row : List ℕ
+without_row =
+    filter (λ o. not (is_some (lookup (nat_eq o) rows) || is_silent_opcode o))
+    (map (λ (row : ℕ × grammar.Shape). row.0)
+    (grammar.module_rows ++ (grammar.type_rows ++ (grammar.flow_rows ++ (grammar.memory_rows ++ (grammar.value_rows ++ grammar.pair_rows))))))
 
 -- ---- types and words
 

@@ -6,6 +6,14 @@ ghost use Rattle.spv_opcodes.specs.declared.ext.TheConstants as ext;
 ghost use Rattle.spv_meaning.specs.Computations.{Evaluates, Extends, Shuffles, Constructs, Extracts, Inserts, ExtractsDynamic, InsertsDynamic, CopiesLogical};
 ghost use Rattle.spv_meaning.specs.Statements as says;
 ghost use Rattle.spv_meaning.specs.Statements.{statements_in};
+ghost use Rattle.spv_meaning.specs.Facts.{without_row};
+
+/// Each opcode of the instruction table has a row or says nothing anywhere, but for those that tell a machine nothing
+/// (OpCapability, OpExtInstImport, OpMemoryModel, OpTypeVoid, OpTypeFunction) and the two conversions, which have no use
+/// while integers have one width.
+pub fn facts_of_rows()
+    ensures { without_row ≡ op.CAPABILITY ∷ op.EXT_INST_IMPORT ∷ op.MEMORY_MODEL ∷ op.TYPE_VOID ∷ op.TYPE_FUNCTION ∷ op.U_CONVERT ∷ op.S_CONVERT ∷ [] }
+{}
 
 /// What stands outside functions: of a name its octets, of a mode its sizes, of a constant its words. An operation on
 /// constants is that of the instruction that it names, which is no operation on constants itself. Debug instructions
