@@ -1,10 +1,10 @@
 -- Memories, places in them, and the part of an object that indexes lead to.
-use Rattle.std.specs.Prelude.{ℕ, zero, suc, ◌+◌, ◌-◌, ◌*◌, ◌/◌, Bool, true, false, cond, ◌==◌, ◌&&◌, ◌||◌, nat_lt, List, [], ◌∷◌, Option, Some, None}
+use Rattle.std.specs.Prelude.{ℕ, zero, suc, Bool, true, false, cond, ◌==◌, ◌&&◌, ◌||◌, nat_lt, List, [], ◌∷◌, Option, Some, None}
 use Rattle.std.specs.List.{list_all}
 use Rattle.spv_opcodes.specs.declared.storage_class.TheConstants as storage_class
 pub use Rattle.spv_meaning.specs.Meanings.{is_laid}
 pub use Rattle.spv_meaning.specs.Parts.{Part, room, part, and_then}
-use Rattle.spv_meaning.specs.Types.{DataType, Void, Boolean, Integer, Vector, Array, RuntimeArray, Struct, Members, NoMember, Member, in_words, cells, spots, moved_by, number_in, not_negative}
+use Rattle.spv_meaning.specs.Types.{DataType, Void, Boolean, Integer, Vector, Array, RuntimeArray, Struct, Members, NoMember, Member, in_words, spots, moved_by, number_in, not_negative}
 
 -- a number for each of three dimensions
 pub record Triple : Type 0 where

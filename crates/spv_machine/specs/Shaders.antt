@@ -1,15 +1,15 @@
 -- Small shaders in statements, to try the definitions on.
-use Rattle.std.specs.Prelude.{ℕ, false, List, [], ◌∷◌, ◌++◌, map, codes, Option, Some, None}
+use Rattle.std.specs.Prelude.{ℕ, List, [], ◌∷◌, ◌++◌, map, codes}
 use Rattle.spv_opcodes.specs.declared.op.TheConstants as op
 use Rattle.spv_opcodes.specs.declared.decoration.TheConstants as decoration
 use Rattle.spv_opcodes.specs.declared.builtin.TheConstants as builtin
 use Rattle.spv_opcodes.specs.declared.storage_class.TheConstants as storage_class
 use Rattle.spv_meaning.specs.Statements as says
 use Rattle.spv_meaning.specs.Statements.{Statement}
-use Rattle.spv_meaning.specs.Computations.{Evaluates, Constructs, Extracts, Inserts}
+use Rattle.spv_meaning.specs.Computations.{Extracts, Inserts}
 use Rattle.spv_machine.specs.Places.{Triple}
 use Rattle.spv_machine.specs.Access.{Access}
-use Rattle.spv_machine.specs.Dispatch.{Bound, Dispatch}
+use Rattle.spv_machine.specs.Dispatch.{Dispatch}
 use Rattle.spv_machine.specs.Setting.{setting}
 use Rattle.spv_machine.specs.Machine.{trace_in}
 use Rattle.spv_machine.specs.Doubling.{on}

@@ -1,5 +1,5 @@
 -- What the definitions are tried on.
-use Rattle.std.specs.Prelude.{ℕ, true, false, not, ◌||◌, nat_eq, List, [], ◌∷◌, ◌++◌, map, filter, Option, Some, None, is_some}
+use Rattle.std.specs.Prelude.{ℕ, false, not, ◌||◌, nat_eq, List, [], ◌∷◌, ◌++◌, map, filter, Some, is_some}
 use Rattle.std.specs.Map.{lookup}
 use Rattle.spv_opcodes.specs.declared.op.TheConstants as op
 use Rattle.spv_opcodes.specs.declared.decoration.TheConstants as decoration
@@ -8,7 +8,7 @@ use Rattle.spv_module.specs.Code.{Code, code_of}
 use Rattle.spv_meaning.specs.Statements as says
 use Rattle.spv_meaning.specs.Statements.{Statement, rows, is_silent_opcode}
 use Rattle.spv_meaning.specs.Computations.{Evaluates, Extracts, Typed}
-use Rattle.spv_meaning.specs.Types.{DataType, Boolean, Integer, Vector, Array, Struct, Member, NoMember}
+use Rattle.spv_meaning.specs.Types.{DataType, Integer, Array, Struct, Member, NoMember}
 
 -- ---- rows
 

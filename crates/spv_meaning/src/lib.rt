@@ -10,5 +10,7 @@ mod constants;
 mod statements;
 
 pub use computations::{facts_of_computations, facts_of_extended_instructions};
-pub use constants::{facts_of_constants, facts_of_meanings, facts_of_parts, facts_of_specialisation};
+pub use constants::{
+    facts_of_constants, facts_of_meanings, facts_of_parts, facts_of_specialisation,
+};
 pub use statements::{facts_of_declarations, facts_of_instructions, facts_of_rows};

@@ -1,4 +1,4 @@
-use Rattle.std.proofs.Common.{◌≡◌, ℕ, List, [], ◌∷◌, refl}
+use Rattle.std.proofs.Common.{[], ◌∷◌, refl}
 use Rattle.spv_module.specs.Code.{cut}
 use Rattle.spv_words.specs.Words.{bytes_of_words}
 use Rattle.spv_value.specs.Eval.{Eval, op_rules}
