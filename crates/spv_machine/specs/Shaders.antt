@@ -164,8 +164,8 @@ telling kind type =
 
 -- ---- values
 
--- behind types of a word, a boolean, a pair, an array of two words and a struct of a word and that array: constants of each, and the variable 30 of a buffer;
--- the array 46 is as long as the constant with the SpecId 7 says
+-- behind types of a word, a boolean, a pair, an array of two words and a struct of a word and that array: constants of each, and the variable 30 of a
+-- buffer; the array 46 is as long as the constant with the SpecId 7 says
 abbrev pub valued : (functions : List Statement) → List Statement
 valued functions =
     says.EntryPoint 1 (codes "main")
@@ -242,7 +242,8 @@ joining_struct =
 -- an element of the array that is as long as the SpecId 7 says: 3 is stored there and loaded again
 abbrev pub indexing : (index : ℕ) → List Statement
 indexing index =
-    storing_value (says.AccessChain 23 10 48 (index ∷ []) ∷ says.Store 10 33 [] ∷ says.AccessChain 23 11 48 (index ∷ []) ∷ says.Load 20 19 11 [] ∷ [])
+    storing_value
+    (says.AccessChain 23 10 48 (index ∷ []) ∷ says.Store 10 33 [] ∷ says.AccessChain 23 11 48 (index ∷ []) ∷ says.Load 20 19 11 [] ∷ [])
 
 -- the literals are 1, 2 and again 1; each block stores another constant, the default none
 abbrev pub switching : (selector : ℕ) → List Statement

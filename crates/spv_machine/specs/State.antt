@@ -93,11 +93,17 @@ with_variable v ws f = record f { variables = (v, ws) ∷ f.variables }
 
 -- ---- values of ids
 
+abbrev pub set_of : Setting → (id : ℕ) → ℕ
+set_of c id = literal (decorated c.all id decoration.DESCRIPTOR_SET)
+
+abbrev pub binding_of : Setting → (id : ℕ) → ℕ
+binding_of c id = literal (decorated c.all id decoration.BINDING)
+
 -- the memory of a variable outside functions
 abbrev pub memory_of : Setting → (group : Triple) → (class id : ℕ) → Memory
 memory_of c group class id =
-    cond (class == storage_class.STORAGE_BUFFER) (Buffer (literal (decorated c.all id decoration.DESCRIPTOR_SET)) (literal (decorated c.all id decoration.BINDING)))
-    (cond (class == storage_class.UNIFORM) (Uniform (literal (decorated c.all id decoration.DESCRIPTOR_SET)) (literal (decorated c.all id decoration.BINDING)))
+    cond (class == storage_class.STORAGE_BUFFER) (Buffer (set_of c id) (binding_of c id))
+    (cond (class == storage_class.UNIFORM) (Uniform (set_of c id) (binding_of c id))
     (cond (class == storage_class.PUSH_CONSTANT) Push
     (cond (class == storage_class.WORKGROUP) (Workgroup group id)
     (cond (class == storage_class.INPUT) (Input id) (Private id)))))
@@ -107,7 +113,8 @@ is_volatile_id c id = is_some (decorated c.all id decoration.VOLATILE)
 
 -- the whole of a variable, also where its memory ends inside it
 abbrev pub whole : Setting → Memory → (class : ℕ) → DataType → (id : ℕ) → Value
-whole c memory class target id = Points (record { class = class; target = target; place = Some (object_at class memory 0 target); volatile = is_volatile_id c id })
+whole c memory class target id =
+    Points (record { class = class; target = target; place = Some (object_at class memory 0 target); volatile = is_volatile_id c id })
 
 abbrev pub global : Setting → (group : Triple) → (id : ℕ) → Option Meaning → Option Value
 global c group id (Some (IsConstant t words)) = Some (Words t words)
@@ -169,7 +176,8 @@ held c d shared = []
 -- what is read at a place of such a memory: zeros at Nowhere, and past the end of a memory that is too short
 abbrev pub read_held : Setting → Data → (count : ℕ) → Option Place → List ℕ
 read_held c d count None = replicate count 0
-read_held c d count (Some p) = cond (is_within (size_of c.dispatch p.memory) p.positions) (map (slice_index (held c d p.memory)) p.positions) (replicate count 0)
+read_held c d count (Some p) =
+    cond (is_within (size_of c.dispatch p.memory) p.positions) (map (slice_index (held c d p.memory)) p.positions) (replicate count 0)
 
 -- words put at some positions, in their order
 abbrev pub written : List ℕ → (positions words : List ℕ) → List ℕ

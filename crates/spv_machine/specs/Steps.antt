@@ -80,7 +80,8 @@ passed c parameter (Points p) = Points (record p { volatile = is_volatile_id c p
 -- behind the parameters and the first label of a function, in a new frame
 abbrev pub enters : Setting → List Caller → List Statement → List Value → List (ℕ × Value) → Data → Next
 enters c callers (says.FunctionParameter t r ∷ rest) (v ∷ vs) bound d = enters c callers rest vs ((r, passed c r v) ∷ bound) d
-enters c callers (says.Label r ∷ rest) [] bound d = Goes (At callers rest r (record d { frames = record { values = bound; variables = [] } ∷ d.frames }))
+enters c callers (says.Label r ∷ rest) [] bound d =
+    Goes (At callers rest r (record d { frames = record { values = bound; variables = [] } ∷ d.frames }))
 enters c callers other vs bound d = IsStuck
 
 -- a call's result, where the callee has a value
@@ -105,7 +106,7 @@ acts c callers block d [] = IsStuck
 acts c callers block d (says.Merge ∷ rest) = Goes (At callers rest block d)
 acts c callers block d (says.Branch target ∷ rest) = branches c callers block d target
 acts c callers block d (says.BranchConditional condition target other ∷ rest) =
-    given_some (words_of_value (value c d condition)) (λ ws. cond (number_in ws == 1) (branches c callers block d target) (branches c callers block d other))
+    given_some (words_of_value (value c d condition)) (λ ws. branches c callers block d (cond (number_in ws == 1) target other))
 acts c callers block d (says.Switch selector default cases ∷ rest) =
     given_some (words_of_value (value c d selector)) (λ ws. branches c callers block d (chosen (number_in ws) default cases))
 acts c callers block d (says.Return ∷ rest) = Goes (returns_to callers None d)

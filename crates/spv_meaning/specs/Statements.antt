@@ -153,7 +153,8 @@ memory_rows =
     ∷ (op.CONTROL_BARRIER, λ ws. ControlBarrier (slice_index ws 0) (slice_index ws 1) (slice_index ws 2))
     ∷ (op.MEMORY_BARRIER, λ ws. MemoryBarrier (slice_index ws 0) (slice_index ws 1))
     ∷ (op.ATOMIC_STORE, λ ws. Atomic op.ATOMIC_STORE [] [] (slice_index ws 0) (slice_index ws 1) (take 1 (drop 2 ws)) (drop 3 ws))
-    ∷ (op.ATOMIC_COMPARE_EXCHANGE, λ ws. Atomic op.ATOMIC_COMPARE_EXCHANGE (take 1 ws) (take 1 (drop 1 ws)) (slice_index ws 2) (slice_index ws 3) (take 2 (drop 4 ws)) (drop 6 ws))
+    ∷ (op.ATOMIC_COMPARE_EXCHANGE, λ ws.
+        Atomic op.ATOMIC_COMPARE_EXCHANGE (take 1 ws) (take 1 (drop 1 ws)) (slice_index ws 2) (slice_index ws 3) (take 2 (drop 4 ws)) (drop 6 ws))
     ∷ map atomic
     (op.ATOMIC_LOAD ∷ op.ATOMIC_EXCHANGE ∷ op.ATOMIC_I_INCREMENT ∷ op.ATOMIC_I_DECREMENT ∷ op.ATOMIC_I_ADD ∷ op.ATOMIC_I_SUB ∷ op.ATOMIC_S_MIN ∷ op.ATOMIC_U_MIN
     ∷ op.ATOMIC_S_MAX ∷ op.ATOMIC_U_MAX ∷ op.ATOMIC_AND ∷ op.ATOMIC_OR ∷ op.ATOMIC_XOR ∷ [])

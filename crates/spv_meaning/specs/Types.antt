@@ -84,7 +84,8 @@ abbrev mutual
   -- the first member is at `packed` if it is not laid out
   pub member_spots : (laid : Bool) (packed : ℕ) → Members → List ℕ
   member_spots laid packed NoMember = []
-  member_spots laid packed (Member offset volatile t rest) = moved_by (cond laid (in_words offset) packed) (spots laid t) ++ member_spots laid (packed + cells t) rest
+  member_spots laid packed (Member offset volatile t rest) =
+    moved_by (cond laid (in_words offset) packed) (spots laid t) ++ member_spots laid (packed + cells t) rest
 
 -- words as one number, the lowest first
 abbrev pub number_in : List ℕ → ℕ
