@@ -7,9 +7,8 @@ use Rattle.spv_grammar.specs.declared.kind.Role.{Role}
 use Rattle.spv_grammar.specs.Operands.{roles_of}
 use Rattle.spv_grammar.specs.Roles.{names_id}
 use Rattle.spv_module.specs.Instruction.{Instruction, parts}
-use Rattle.spv_form.specs.Bound.{greatest, named_ids}
-use Rattle.spv_form.specs.SingleBlock.{words_with}
-use Rattle.spv_form.proofs.Lines.{take-at}
+use Rattle.spv_form.specs.Bound.{greatest, named_ids, words_with}
+use Rattle.spv_form.proofs.Places.{take-at}
 
 -- induction on the numbers in front
 greatest-append : (xs ys : List ℕ) → greatest (xs ++ ys) ≡ max (greatest xs) (greatest ys)

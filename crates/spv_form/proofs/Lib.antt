@@ -1,5 +1,4 @@
-pub mod Lines
-pub mod Following
-pub mod Ids
+pub mod Places
 pub mod Greatest
-pub mod Conditions
+pub mod FormScan
+pub mod FormLaw

@@ -1,3 +1,3 @@
-pub mod SingleBlock
+pub mod OneBlock
 pub mod Bound
-pub mod Steps
+pub mod FormSteps

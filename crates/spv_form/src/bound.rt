@@ -2,8 +2,7 @@ ghost use Rattle.std.specs.Prelude.{◌≡◌, cond, max};
 ghost use Rattle.std.specs.List.{fold, zip};
 ghost use Rattle.spv_grammar.specs.Roles.{names_id};
 ghost use Rattle.spv_module.specs.View.{seen};
-ghost use Rattle.spv_form.specs.Bound.{bound_of_ids, greatest};
-ghost use Rattle.spv_form.specs.SingleBlock.{words_with};
+ghost use Rattle.spv_form.specs.Bound.{bound_of_ids, greatest, words_with};
 
 use spv_grammar::kind::Role;
 use spv_module::{InstList, View};

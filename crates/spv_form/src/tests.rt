@@ -1,5 +1,8 @@
-use crate::{bound_of, is_single_block};
-use spv_module::{Flat, decode};
+ghost use Rattle.std.specs.Prelude.{◌≤◌, length};
+
+use crate::{bound_of, outside_form};
+use spv_base::{MAGIC, rule};
+use spv_module::{Flat, Refusal, decode};
 use std::alloc::Global;
 use std::test::Fail;
 
@@ -148,67 +151,129 @@ const DOUBLING: [u32; 141] = [
     0x0001_0038,
 ];
 
-/// The module of the shader's words after some of them were changed.
-fn changed(alloc: Global, changes: &[(usize, u32)]) -> Option<Flat> {
+/// The shader's words after some of them were changed.
+fn changed(changes: &[(usize, u32)]) -> [u32; 141] {
     let mut words = DOUBLING;
     for (place, word) in changes {
         if let Some(old) = words.get_mut(*place) {
             *old = *word;
         }
     }
-    if words[0] != DOUBLING[0] {
+    words
+}
+
+/// The module of words.
+fn read(alloc: Global, words: &[u32; 141]) -> Option<Flat> {
+    if words[0] != MAGIC {
         return None;
     }
-    decode(alloc, &words).ok()
+    decode(alloc, words).ok()
+}
+
+/// Where the module of words is not of the form. None where they are no module.
+fn outside(alloc: Global, words: &[u32]) -> Option<Option<Refusal>>
+    requires { length words.now ≤ 141 }
+{
+    if words.len() < 5 || words[0] != MAGIC {
+        return None;
+    }
+    match decode(alloc, words) {
+        Ok(flat) => Some(outside_form(&flat, words.len() as u32)),
+        Err(_) => None,
+    }
 }
 
 #[test]
-fn only_the_shader_and_its_line_marks_are_of_the_form(rt: HostRuntime) -> Result<(), Fail> {
-    let cases: [(&str, &[(usize, u32)], bool); 11] = [
-        ("as it is", &[], true),
+fn the_first_place_outside_the_form_is_refused(rt: HostRuntime) -> Result<(), Fail> {
+    let cases: [(&str, usize, &[(usize, u32)], Option<u32>); 13] = [
+        ("as it is", 141, &[], None),
         (
             "marks of lines",
+            141,
             &[(23, 0x0001_013d), (24, 0x0001_013d), (25, 0x0001_013d)],
-            true,
-        ),
-        ("OpIAdd for OpIMul", &[(131, 0x0005_0080)], false),
-        ("an id defined twice", &[(111, 0xf)], false),
-        ("an operand that is defined later", &[(130, 0x15)], false),
-        ("an operand that is the result", &[(130, 0x14)], false),
-        ("a type that is defined later", &[(90, 0xf)], false),
-        (
-            "an operand that nothing defines",
-            &[(3, 0x17), (130, 0x16)],
-            false,
+            None,
         ),
         (
-            "an entry point with an id that nothing defines",
-            &[(3, 0x17), (16, 0x16)],
-            false,
-        ),
-        (
-            "a name of an id that nothing defines",
-            &[(3, 0x17), (27, 0x16)],
-            false,
-        ),
-        (
-            "a second block",
+            "a second OpLabel",
+            141,
             &[
                 (3, 0x17),
                 (136, 0x0001_00fd),
                 (137, 0x0002_00f8),
                 (138, 0x16),
             ],
-            false,
+            Some(137),
+        ),
+        (
+            "OpReturnValue",
+            141,
+            &[
+                (136, 0x0001_013d),
+                (137, 0x0001_013d),
+                (138, 0x0002_00fe),
+                (139, 0x15),
+            ],
+            Some(138),
+        ),
+        (
+            "OpBranch",
+            141,
+            &[
+                (136, 0x0001_013d),
+                (137, 0x0001_013d),
+                (138, 0x0002_00f9),
+                (139, 0x10),
+            ],
+            Some(138),
+        ),
+        (
+            "OpBranchConditional",
+            141,
+            &[(136, 0x0004_00fa), (137, 0x14), (138, 0x10), (139, 0x10)],
+            Some(136),
+        ),
+        (
+            "OpSwitch",
+            141,
+            &[(136, 0x0003_00fb), (139, 0x0001_013d)],
+            Some(136),
+        ),
+        ("OpUnreachable", 141, &[(139, 0x0001_00ff)], Some(139)),
+        ("OpPhi", 141, &[(131, 0x0005_00f5)], Some(131)),
+        ("OpFunctionCall", 141, &[(131, 0x0005_0039)], Some(131)),
+        (
+            "a second function",
+            141,
+            &[
+                (3, 0x18),
+                (112, 0x0001_00fd),
+                (113, 0x0001_0038),
+                (114, 0x0005_0036),
+                (115, 6),
+                (116, 0x16),
+                (117, 0),
+                (118, 7),
+                (119, 0x0002_00f8),
+                (120, 0x17),
+            ],
+            Some(114),
+        ),
+        ("no function", 105, &[], Some(105)),
+        (
+            "OpPhi and OpUnreachable",
+            141,
+            &[(131, 0x0005_00f5), (139, 0x0001_00ff)],
+            Some(131),
         ),
     ];
-    for (case, changes, expected) in cases {
-        let flat = changed(rt.alloc(), changes);
-        let answer = match &flat {
-            Some(flat) => Some(is_single_block(rt.alloc(), flat)?),
-            None => None,
-        };
-        assert_eq!(rt; answer, Some(expected), "{case}");
+    for (case, count, changes, expected) in cases {
+        let words = changed(changes);
+        let (words, _) = words.split_at(count.min(words.len()));
+        let refusal = expected.map(|at| Refusal {
+            rule: rule::NOT_YET,
+            at,
+        });
+        assert_eq!(rt; outside(rt.alloc(), words), Some(refusal), "{case}");
     }
     Ok(())
 }
@@ -216,11 +281,7 @@ fn only_the_shader_and_its_line_marks_are_of_the_form(rt: HostRuntime) -> Result
 #[test]
 fn the_bound_is_above_each_id(rt: HostRuntime) -> Result<(), Fail> {
     for (changes, bound) in [(&[] as &[(usize, u32)], 22), (&[(3, 0x40), (27, 0x3f)], 64)] {
-        let flat = changed(rt.alloc(), changes);
-        let answer = match &flat {
-            Some(flat) => Some(bound_of(flat.insts())),
-            None => None,
-        };
+        let answer = read(rt.alloc(), &changed(changes)).map(|flat| bound_of(flat.insts()));
         assert_eq!(rt; answer, Some(bound));
     }
     Ok(())
