@@ -10,7 +10,8 @@ use Rattle.spv_machine.specs.Dispatch.{Bound, Dispatch}
 use Rattle.spv_machine.specs.Effects.{Shared, effects}
 use Rattle.spv_machine.specs.Steps.{program}
 use Rattle.spv_machine.specs.Laws.{MeansSame}
-use Rattle.spv_machine.specs.Machine.{setting_of, Trace, Ends, Finals}
+use Rattle.spv_machine.specs.Setting.{Setting}
+use Rattle.spv_machine.specs.Machine.{setting_of, EndsIn, FinalsIn, Trace, Ends, Finals}
 use Rattle.spv_machine.specs.Places.{Place}
 
 abbrev pub same_words : List ℕ → List ℕ → Bool
@@ -58,42 +59,57 @@ abbrev pub leaves_buffers : List Bound → Shared → Bool
 leaves_buffers buffers shared = same_buffers shared.buffers buffers
 
 -- this schedule leads to a world that cannot go on and has these buffers
-abbrev pub leads_to : Code → Dispatch → (schedule : List ℕ) → List Bound → Bool
-leads_to m d schedule buffers =
-    exploring.leads (effects (setting_of m d)) (program (setting_of m d)) (exploring.leaves (effects (setting_of m d)) (program (setting_of m d)) (leaves_buffers buffers)) schedule
-    (Some (first_world (effects (setting_of m d)) (program (setting_of m d))))
+abbrev pub leads_to : Setting → (schedule : List ℕ) → List Bound → Bool
+leads_to c schedule buffers =
+    exploring.leads (effects c) (program c) (exploring.leaves (effects c) (program c) (leaves_buffers buffers)) schedule
+    (Some (first_world (effects c) (program c)))
 
-pub finals_by : (m : Code) (d : Dispatch) (schedule : List ℕ) (buffers : List Bound) → leads_to m d schedule buffers ≡ true → Finals m d buffers
-unfolding Finals
-finals_by m d schedule buffers h =
-    let e = effects (setting_of m d) in
-    let p = program (setting_of m d) in
+pub finals_in : (c : Setting) (schedule : List ℕ) (buffers : List Bound) → leads_to c schedule buffers ≡ true → FinalsIn c buffers
+finals_in c schedule buffers h =
+    let e = effects c in
+    let p = program c in
     let r = exploring.led e p (exploring.leaves e p (leaves_buffers buffers)) schedule (first_world e p) h in
     let parts = and_parts (exploring.stops e p r.world) (leaves_buffers buffers r.world.memory) r.there in
     (r.world.memory, (schedule, r.world, r.run, exploring.stops_is e p r.world parts.0, refl), same_buffers_is r.world.memory.buffers buffers parts.1)
 
 -- each schedule returns within n steps and leaves buffers of which P holds
-abbrev pub explored : Code → Dispatch → (n : ℕ) → (P : List Bound → Bool) → Bool
-explored m d n P = exploring.explore (effects (setting_of m d)) (program (setting_of m d)) (λ shared. P shared.buffers) n (first_world (effects (setting_of m d)) (program (setting_of m d)))
+abbrev pub explored : Setting → (n : ℕ) → (P : List Bound → Bool) → Bool
+explored c n P = exploring.explore (effects c) (program c) (λ shared. P shared.buffers) n (first_world (effects c) (program c))
 
-pub ends_by : (m : Code) (d : Dispatch) (n : ℕ) (P : List Bound → Bool) → explored m d n P ≡ true → Ends m d
-unfolding Ends
-ends_by m d n P h = exploring.explored_ends (effects (setting_of m d)) (program (setting_of m d)) (λ shared. P shared.buffers) n h
+pub ends_in : (c : Setting) (n : ℕ) (P : List Bound → Bool) → explored c n P ≡ true → EndsIn c
+ends_in c n P h = exploring.explored_ends (effects c) (program c) (λ shared. P shared.buffers) n h
 
-passes_by : (m : Code) (d : Dispatch) (n : ℕ) (P : List Bound → Bool) → explored m d n P ≡ true → (others : List Bound) → Finals m d others → P others ≡ true
-unfolding Finals
-passes_by m d n P h others final =
-    ap P (sym final.2) ∙ exploring.explored_finals (effects (setting_of m d)) (program (setting_of m d)) (λ shared. P shared.buffers) n h final.0 final.1
+passes_in : (c : Setting) (n : ℕ) (P : List Bound → Bool) → explored c n P ≡ true → (others : List Bound) → FinalsIn c others → P others ≡ true
+passes_in c n P h others final =
+    ap P (sym final.2) ∙ exploring.explored_finals (effects c) (program c) (λ shared. P shared.buffers) n h final.0 final.1
 
-pub only_by : (m : Code) (d : Dispatch) (n : ℕ) (buffers : List Bound) → explored m d n (λ bs. same_buffers bs buffers) ≡ true → (others : List Bound) → Finals m d others → others ≡ buffers
-only_by m d n buffers h others final = same_buffers_is others buffers (passes_by m d n (λ bs. same_buffers bs buffers) h others final)
+pub only_in : (c : Setting) (n : ℕ) (buffers : List Bound) → explored c n (λ bs. same_buffers bs buffers) ≡ true → (others : List Bound) → FinalsIn c others → others ≡ buffers
+only_in c n buffers h others final = same_buffers_is others buffers (passes_in c n (λ bs. same_buffers bs buffers) h others final)
 
-pub either_by : (m : Code) (d : Dispatch) (n : ℕ) (one other : List Bound) → explored m d n (λ bs. same_buffers bs one || same_buffers bs other) ≡ true → (others : List Bound) → Finals m d others → (others ≡ one) ⊎ (others ≡ other)
-either_by m d n one other h others final =
-    elim (or_cases (same_buffers others one) (same_buffers others other) (passes_by m d n (λ bs. same_buffers bs one || same_buffers bs other) h others final)) [
+pub either_in : (c : Setting) (n : ℕ) (one other : List Bound) → explored c n (λ bs. same_buffers bs one || same_buffers bs other) ≡ true → (others : List Bound) → FinalsIn c others → (others ≡ one) ⊎ (others ≡ other)
+either_in c n one other h others final =
+    elim (or_cases (same_buffers others one) (same_buffers others other) (passes_in c n (λ bs. same_buffers bs one || same_buffers bs other) h others final)) [
       | inl e ↦ inl (same_buffers_is others one e)
       | inr e ↦ inr (same_buffers_is others other e)
     ]
+
+-- ---- the same of a module
+
+pub finals_by : (m : Code) (d : Dispatch) (schedule : List ℕ) (buffers : List Bound) → leads_to (setting_of m d) schedule buffers ≡ true → Finals m d buffers
+unfolding Finals
+finals_by m d schedule buffers h = finals_in (setting_of m d) schedule buffers h
+
+pub ends_by : (m : Code) (d : Dispatch) (n : ℕ) (P : List Bound → Bool) → explored (setting_of m d) n P ≡ true → Ends m d
+unfolding Ends
+ends_by m d n P h = ends_in (setting_of m d) n P h
+
+pub only_by : (m : Code) (d : Dispatch) (n : ℕ) (buffers : List Bound) → explored (setting_of m d) n (λ bs. same_buffers bs buffers) ≡ true → (others : List Bound) → Finals m d others → others ≡ buffers
+unfolding Finals
+only_by m d n buffers h others final = only_in (setting_of m d) n buffers h others final
+
+pub either_by : (m : Code) (d : Dispatch) (n : ℕ) (one other : List Bound) → explored (setting_of m d) n (λ bs. same_buffers bs one || same_buffers bs other) ≡ true → (others : List Bound) → Finals m d others → (others ≡ one) ⊎ (others ≡ other)
+unfolding Finals
+either_by m d n one other h others final = either_in (setting_of m d) n one other h others final
 
 -- ---- traces that differ
 

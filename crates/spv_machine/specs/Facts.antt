@@ -1,19 +1,20 @@
 -- The words of facts on small shaders.
 use Rattle.std.specs.Prelude.{ℕ, zero, suc, ◌++◌, Bool, false, List, [], ◌∷◌, map, replicate, codes, Option, Some, None}
-use Rattle.interleaving.specs.Trace.{Traces, trace_of}
+use Rattle.interleaving.specs.Trace.{Traces}
 use Rattle.spv_opcodes.specs.declared.op.TheConstants as op
 use Rattle.spv_opcodes.specs.declared.decoration.TheConstants as decoration
 use Rattle.spv_opcodes.specs.declared.builtin.TheConstants as builtin
 use Rattle.spv_opcodes.specs.declared.storage_class.TheConstants as storage_class
 use Rattle.spv_meaning.specs.Statements as says
 use Rattle.spv_meaning.specs.Statements.{Statement}
+use Rattle.spv_meaning.specs.Computations.{Evaluates}
 use Rattle.spv_meaning.specs.Types.{DataType, Integer, Vector, RuntimeArray, Struct, NoMember, Member}
 use Rattle.spv_machine.specs.Places.{Triple, Memory, Buffer, Place, object_at}
 use Rattle.spv_machine.specs.Access.{Action, Loads, Stores, Atomics, Access}
 use Rattle.spv_machine.specs.Setting.{Setting, setting}
 use Rattle.spv_machine.specs.State.{Data}
 use Rattle.spv_machine.specs.Effects.{Shared}
-use Rattle.spv_machine.specs.Steps.{look, first_state}
+use Rattle.spv_machine.specs.Machine.{trace_in}
 use Rattle.spv_machine.specs.Doubling.{on, buffer}
 
 -- the first n invocations, one after another, take so many steps each
@@ -133,7 +134,7 @@ module_of functions =
     ∷ functions
 
 abbrev pub alone_in : List Statement → Traces Access
-alone_in functions = let c = setting (module_of functions) (on (0 ∷ [])) in trace_of (look c) (first_state c 0)
+alone_in functions = trace_in (setting (module_of functions) (on (0 ∷ []))) 0
 
 -- a loop of two turns whose OpPhi give each other their values
 abbrev pub swapping : List Statement
@@ -169,7 +170,7 @@ calling =
     ∷ says.Label 7
     ∷ says.Variable 23 8 storage_class.FUNCTION []
     ∷ says.Load 20 9 8 []
-    ∷ says.Operation op.I_ADD 20 13 (9 ∷ 6 ∷ [])
+    ∷ says.Operation (Evaluates op.I_ADD) 20 13 (9 ∷ 6 ∷ [])
     ∷ says.Store 8 13 []
     ∷ says.Load 20 14 8 []
     ∷ says.ReturnValue 14

@@ -11,3 +11,4 @@ pub mod Alike
 pub mod Laws
 pub mod Doubling
 pub mod Facts
+pub mod Shaders

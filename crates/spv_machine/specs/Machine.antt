@@ -18,6 +18,20 @@ use Rattle.spv_machine.specs.Steps.{look, first_state, program}
 abbrev pub setting_of : Code → Dispatch → Setting
 setting_of m d = setting (statements m) d
 
+-- ---- what statements mean
+
+-- every schedule returns
+abbrev pub EndsIn : Setting → Type 0
+EndsIn c = machine.Ends (effects c) (program c)
+
+-- some run that cannot go on leaves these buffers
+abbrev pub FinalsIn : Setting → List Bound → Type 0
+FinalsIn c buffers = (shared : Shared) × machine.Finals (effects c) (program c) shared × (shared.buffers ≡ buffers)
+
+-- what invocation i does alone, by the number of instructions and the answers
+abbrev pub trace_in : Setting → ℕ → Traces Access
+trace_in c i = alone.trace_of (look c) (first_state c i)
+
 -- ---- what a module means
 
 -- a dispatch fits a module
@@ -28,17 +42,14 @@ Fits m d = FitsStatements (statements m) d
 unfoldable pub workgroup_size : Code → Dispatch → Option Triple
 workgroup_size m d = size_in (statements m) d
 
--- what invocation i does alone, by the number of instructions and the answers
 unfoldable pub Trace : Code → Dispatch → ℕ → Traces Access
-Trace m d i = alone.trace_of (look (setting_of m d)) (first_state (setting_of m d) i)
+Trace m d i = trace_in (setting_of m d) i
 
--- every schedule returns
 unfoldable pub Ends : Code → Dispatch → Type 0
-Ends m d = machine.Ends (effects (setting_of m d)) (program (setting_of m d))
+Ends m d = EndsIn (setting_of m d)
 
--- some run that cannot go on leaves these buffers
 unfoldable pub Finals : Code → Dispatch → List Bound → Type 0
-Finals m d buffers = (shared : Shared) × machine.Finals (effects (setting_of m d)) (program (setting_of m d)) shared × (shared.buffers ≡ buffers)
+Finals m d buffers = FinalsIn (setting_of m d) buffers
 
 -- how many invocations a dispatch has
 unfoldable pub invocation_count : Code → Dispatch → ℕ

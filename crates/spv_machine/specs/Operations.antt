@@ -1,17 +1,17 @@
 -- What an instruction does that leads to the one behind it.
-use Rattle.std.specs.Prelude.{ℕ, ◌%◌, Bool, false, cond, ◌==◌, ◌||◌, List, [], ◌∷◌, ◌++◌, length, slice_index, Option, Some, None}
+use Rattle.std.specs.Prelude.{ℕ, ◌%◌, ◌^◌, Bool, false, cond, ◌==◌, ◌||◌, List, [], ◌∷◌, ◌++◌, length, slice_index, Option, Some, None}
 use Rattle.spv_opcodes.specs.declared.op.TheConstants as op
-use Rattle.spv_value.specs.Eval.{Eval}
 use Rattle.interleaving.specs.Machine.{Answer}
 use Rattle.spv_meaning.specs.Statements as says
 use Rattle.spv_meaning.specs.Statements.{Statement}
 use Rattle.spv_meaning.specs.Types.{DataType, cells, booleans, fitted}
-use Rattle.spv_machine.specs.Places.{Place, Local, is_shared, locate, passes_volatile}
+use Rattle.spv_meaning.specs.Computations.{computed}
+use Rattle.spv_machine.specs.Places.{Place, Local, is_shared, locate, array_length, passes_volatile}
 use Rattle.spv_machine.specs.Access.{Action, Loads, Stores, Atomics, Fences, Barriers, Access}
 use Rattle.spv_machine.specs.Dispatch.{size_of}
-use Rattle.spv_meaning.specs.Constants.{type_at, pointer_at, initial}
+use Rattle.spv_meaning.specs.Constants.{type_at, pointer_at, zeros, initial}
 use Rattle.spv_machine.specs.Setting.{Setting}
-use Rattle.spv_machine.specs.State.{Pointer, Value, Words, Points, Data, on_top, bind, depth_of, with_variable, whole, value, word_lists, words_of_value, pointer_of_value, read_held, write_held}
+use Rattle.spv_machine.specs.State.{Pointer, Value, Words, Points, Data, on_top, bind, depth_of, with_variable, whole, value, word_lists, typed_lists, words_of_value, pointer_of_value, read_held, write_held}
 
 -- the data behind it; an access, and the data by its answer; or nothing
 pub data Outcome : Type 0 where
@@ -86,11 +86,15 @@ order_access action opcode scopes semantics = record {
   id = 0;
 }
 
+-- a result of words of a type
+abbrev pub results : Data → (r : ℕ) → DataType → (words : List ℕ) → Outcome
+results d r t words = Does (bind r (Words t words) d)
+
 abbrev pub loads : Setting → Data → DataType → (r : ℕ) → (memory : List ℕ) → Pointer → Outcome
 loads c d t r memory p =
     cond (is_shared p.class)
-    (Wants (load_access r (cells t) p memory) (λ answer. bind r (Words (fitted (booleans t) answer)) d))
-    (Does (bind r (Words (read_held c d (cells t) p.place)) d))
+    (Wants (load_access r (cells t) p memory) (λ answer. bind r (Words t (fitted (booleans t) answer)) d))
+    (results d r t (read_held c d (cells t) p.place))
 
 abbrev pub stores : Data → (memory words : List ℕ) → Pointer → Outcome
 stores d memory words p = cond (is_shared p.class) (Wants (store_access p words memory) (λ answer. d)) (Does (write_held d p.place words))
@@ -117,7 +121,7 @@ declares c d r type initialiser =
 
 -- the result of an atomic, where it has one
 abbrev pub atomic_result : Setting → Data → (t r : List ℕ) → Answer → Data
-atomic_result c d (t ∷ ts) (r ∷ rs) answer = bind r (Words (fitted (booleans (type_at c.table t)) answer)) d
+atomic_result c d (t ∷ ts) (r ∷ rs) answer = bind r (Words (type_at c.table t) (fitted (booleans (type_at c.table t)) answer)) d
 atomic_result c d t r answer = d
 
 abbrev pub first_or_zero : List ℕ → ℕ
@@ -137,8 +141,13 @@ outcome c d (says.Load t r pointer memory) = with_some (pointer_of_value (value 
 outcome c d (says.Store pointer object memory) =
     with_some (pointer_of_value (value c d pointer)) (λ p.
     with_some (words_of_value (value c d object)) (λ words. stores d memory words p))
-outcome c d (says.Operation opcode t r operands) =
-    with_some (word_lists c d operands) (λ wss. Does (bind r (Words (Eval 32 opcode wss)) d))
+outcome c d (says.ArrayLength t r pointer member) =
+    with_some (pointer_of_value (value c d pointer)) (λ p.
+    results d r (type_at c.table t) (array_length p.class (size_at c p.place) p.target p.place member % 2 ^ 32 ∷ []))
+outcome c d (says.Operation computation t r operands) =
+    with_some (typed_lists c d operands) (λ vs. results d r (type_at c.table t) (computed computation (type_at c.table t) vs))
+outcome c d (says.Undef t r) = results d r (type_at c.table t) (zeros (type_at c.table t))
+outcome c d (says.CopyObject t r object) = with_some (value c d object) (λ v. Does (bind r v d))
 outcome c d (says.ControlBarrier execution scope semantics) =
     with_some (word_lists c d (execution ∷ scope ∷ [])) (λ scopes.
     with_some (word_lists c d (semantics ∷ [])) (λ wss.

@@ -1,10 +1,10 @@
 -- Memories, places in them, and the part of an object that indexes lead to.
-use Rattle.std.specs.Prelude.{ℕ, zero, suc, ◌+◌, ◌-◌, ◌*◌, ◌/◌, Bool, true, false, cond, ◌==◌, ◌&&◌, ◌||◌, nat_lt, List, [], ◌∷◌, Option, Some, None}
+use Rattle.std.specs.Prelude.{ℕ, zero, suc, Bool, true, false, cond, ◌==◌, ◌&&◌, ◌||◌, nat_lt, List, [], ◌∷◌, Option, Some, None}
 use Rattle.std.specs.List.{list_all}
 use Rattle.spv_opcodes.specs.declared.storage_class.TheConstants as storage_class
 pub use Rattle.spv_meaning.specs.Meanings.{is_laid}
-pub use Rattle.spv_meaning.specs.Parts.{Part, part, and_then}
-use Rattle.spv_meaning.specs.Types.{DataType, Void, Boolean, Integer, Vector, Array, RuntimeArray, Struct, Members, NoMember, Member, in_words, cells, spots, moved_by, number_in, not_negative}
+pub use Rattle.spv_meaning.specs.Parts.{Part, room, part, and_then}
+use Rattle.spv_meaning.specs.Types.{DataType, Void, Boolean, Integer, Vector, Array, RuntimeArray, Struct, Members, NoMember, Member, in_words, spots, moved_by, number_in, not_negative}
 
 -- a number for each of three dimensions
 pub record Triple : Type 0 where
@@ -65,6 +65,19 @@ locate class size t place indexes =
     and_then place (λ p.
     and_then (parts_along (is_laid class) size indexes (record { first = p.first; type = t })) (λ q.
     kept_within size (object_at class p.memory q.first q.type)))
+
+-- how many elements a runtime array has; anything else has none
+abbrev pub elements : (size : Option ℕ) (first : ℕ) → DataType → ℕ
+elements size first (RuntimeArray stride t) = room size first (in_words stride)
+elements size first other = 0
+
+abbrev pub elements_of : (size : Option ℕ) → Option Part → ℕ
+elements_of size None = 0
+elements_of size (Some p) = elements size p.first p.type
+
+-- how many the member has that the struct at a place ends in
+unfoldable pub array_length : (class : ℕ) (size : Option ℕ) → DataType → Option Place → (member : ℕ) → ℕ
+array_length class size t place member = elements_of size (and_then place (λ p. part (is_laid class) size t p.first member))
 
 -- whether the member at an index is volatile, and the type of the part at an index, in memory or not
 abbrev pub volatile_member : Members → (index : ℕ) → Bool

@@ -28,15 +28,21 @@ triple_in ws = record { x = slice_index ws 0; y = slice_index ws 1; z = slice_in
 abbrev pub size_by_constant : List Statement → Table → Option Triple
 size_by_constant [] table = None
 size_by_constant (says.Decorate target kind literals ∷ rest) table =
-    cond (kind == decoration.BUILTIN && slice_index literals 0 == builtin.WORKGROUP_SIZE) (Some (triple_in (words_at table target))) (size_by_constant rest table)
+    cond (kind == decoration.BUILTIN && slice_index literals 0 == builtin.WORKGROUP_SIZE) (Some (triple_in (words_at table target)))
+    (size_by_constant rest table)
 size_by_constant (s ∷ rest) table = size_by_constant rest table
+
+abbrev pub first_word : Table → (id : ℕ) → ℕ
+first_word table id = slice_index (words_at table id) 0
+
+-- the sizes by three constants
+abbrev pub triple_of : Table → (ids : List ℕ) → Triple
+triple_of table ids = record { x = first_word table (slice_index ids 0); y = first_word table (slice_index ids 1); z = first_word table (slice_index ids 2) }
 
 abbrev pub size_by_ids : List Statement → Table → (function : ℕ) → Option Triple
 size_by_ids [] table function = None
 size_by_ids (says.LocalSizeId of ids ∷ rest) table function =
-    cond (of == function)
-    (Some (record { x = slice_index (words_at table (slice_index ids 0)) 0; y = slice_index (words_at table (slice_index ids 1)) 0; z = slice_index (words_at table (slice_index ids 2)) 0 }))
-    (size_by_ids rest table function)
+    cond (of == function) (Some (triple_of table ids)) (size_by_ids rest table function)
 size_by_ids (s ∷ rest) table function = size_by_ids rest table function
 
 abbrev pub size_by_literals : List Statement → (function : ℕ) → Option Triple

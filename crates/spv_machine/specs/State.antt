@@ -6,6 +6,7 @@ use Rattle.spv_opcodes.specs.declared.decoration.TheConstants as decoration
 use Rattle.spv_opcodes.specs.declared.storage_class.TheConstants as storage_class
 use Rattle.spv_meaning.specs.Statements.{Statement}
 use Rattle.spv_meaning.specs.Types.{DataType}
+use Rattle.spv_meaning.specs.Computations.{Typed}
 use Rattle.spv_machine.specs.Places.{Triple, Memory, Buffer, Uniform, Push, Workgroup, Input, Private, Local, Place, object_at, is_within}
 use Rattle.spv_meaning.specs.Constants.{Meaning, IsConstant, IsVariable, meaning, decorated, literal}
 use Rattle.spv_machine.specs.Dispatch.{size_of, words_bound}
@@ -18,8 +19,9 @@ pub record Pointer : Type 0 where
   pub place : Option Place
   pub volatile : Bool
 
+-- the words of a type, or a pointer
 pub data Value : Type 0 where
-  Words : List ℕ → Value
+  Words : (type : DataType) (words : List ℕ) → Value
   Points : Pointer → Value
 
 -- what one call holds: the values of ids, and the words of its own variables, the newest first
@@ -91,11 +93,17 @@ with_variable v ws f = record f { variables = (v, ws) ∷ f.variables }
 
 -- ---- values of ids
 
+abbrev pub set_of : Setting → (id : ℕ) → ℕ
+set_of c id = literal (decorated c.all id decoration.DESCRIPTOR_SET)
+
+abbrev pub binding_of : Setting → (id : ℕ) → ℕ
+binding_of c id = literal (decorated c.all id decoration.BINDING)
+
 -- the memory of a variable outside functions
 abbrev pub memory_of : Setting → (group : Triple) → (class id : ℕ) → Memory
 memory_of c group class id =
-    cond (class == storage_class.STORAGE_BUFFER) (Buffer (literal (decorated c.all id decoration.DESCRIPTOR_SET)) (literal (decorated c.all id decoration.BINDING)))
-    (cond (class == storage_class.UNIFORM) (Uniform (literal (decorated c.all id decoration.DESCRIPTOR_SET)) (literal (decorated c.all id decoration.BINDING)))
+    cond (class == storage_class.STORAGE_BUFFER) (Buffer (set_of c id) (binding_of c id))
+    (cond (class == storage_class.UNIFORM) (Uniform (set_of c id) (binding_of c id))
     (cond (class == storage_class.PUSH_CONSTANT) Push
     (cond (class == storage_class.WORKGROUP) (Workgroup group id)
     (cond (class == storage_class.INPUT) (Input id) (Private id)))))
@@ -105,10 +113,11 @@ is_volatile_id c id = is_some (decorated c.all id decoration.VOLATILE)
 
 -- the whole of a variable, also where its memory ends inside it
 abbrev pub whole : Setting → Memory → (class : ℕ) → DataType → (id : ℕ) → Value
-whole c memory class target id = Points (record { class = class; target = target; place = Some (object_at class memory 0 target); volatile = is_volatile_id c id })
+whole c memory class target id =
+    Points (record { class = class; target = target; place = Some (object_at class memory 0 target); volatile = is_volatile_id c id })
 
 abbrev pub global : Setting → (group : Triple) → (id : ℕ) → Option Meaning → Option Value
-global c group id (Some (IsConstant t words)) = Some (Words words)
+global c group id (Some (IsConstant t words)) = Some (Words t words)
 global c group id (Some (IsVariable class target words)) = Some (whole c (memory_of c group class id) class target id)
 global c group id m = None
 
@@ -120,27 +129,34 @@ value_or (Some v) other = Some v
 abbrev pub value : Setting → Data → ℕ → Option Value
 value c d id = value_or (lookup (nat_eq id) (top d.frames).values) (global c d.group id (meaning c.table id))
 
-abbrev pub value_cons : Option Value → Option (List Value) → Option (List Value)
-value_cons (Some v) (Some vs) = Some (v ∷ vs)
-value_cons v vs = None
+abbrev pub some_cons : {X : Type 0} → Option X → Option (List X) → Option (List X)
+some_cons (Some x) (Some xs) = Some (x ∷ xs)
+some_cons x xs = None
+
+-- all of a list, where each is there
+abbrev pub all_some : {X : Type 0} → List (Option X) → Option (List X)
+all_some [] = Some []
+all_some (x ∷ xs) = some_cons x (all_some xs)
 
 -- the values of ids, where each has one
 abbrev pub values : Setting → Data → List ℕ → Option (List Value)
-values c d [] = Some []
-values c d (id ∷ ids) = value_cons (value c d id) (values c d ids)
+values c d ids = all_some (map (value c d) ids)
 
 abbrev pub words_of_value : Option Value → Option (List ℕ)
-words_of_value (Some (Words ws)) = Some ws
+words_of_value (Some (Words t ws)) = Some ws
 words_of_value v = None
-
-abbrev pub words_cons : Option (List ℕ) → Option (List (List ℕ)) → Option (List (List ℕ))
-words_cons (Some ws) (Some wss) = Some (ws ∷ wss)
-words_cons ws wss = None
 
 -- the words of ids, where each has words
 abbrev pub word_lists : Setting → Data → List ℕ → Option (List (List ℕ))
-word_lists c d [] = Some []
-word_lists c d (id ∷ ids) = words_cons (words_of_value (value c d id)) (word_lists c d ids)
+word_lists c d ids = all_some (map (λ id. words_of_value (value c d id)) ids)
+
+abbrev pub typed_of_value : Option Value → Option Typed
+typed_of_value (Some (Words t ws)) = Some (record { type = t; words = ws })
+typed_of_value v = None
+
+-- and with their types
+abbrev pub typed_lists : Setting → Data → List ℕ → Option (List Typed)
+typed_lists c d ids = all_some (map (λ id. typed_of_value (value c d id)) ids)
 
 abbrev pub pointer_of_value : Option Value → Option Pointer
 pointer_of_value (Some (Points p)) = Some p
@@ -160,7 +176,8 @@ held c d shared = []
 -- what is read at a place of such a memory: zeros at Nowhere, and past the end of a memory that is too short
 abbrev pub read_held : Setting → Data → (count : ℕ) → Option Place → List ℕ
 read_held c d count None = replicate count 0
-read_held c d count (Some p) = cond (is_within (size_of c.dispatch p.memory) p.positions) (map (slice_index (held c d p.memory)) p.positions) (replicate count 0)
+read_held c d count (Some p) =
+    cond (is_within (size_of c.dispatch p.memory) p.positions) (map (slice_index (held c d p.memory)) p.positions) (replicate count 0)
 
 -- words put at some positions, in their order
 abbrev pub written : List ℕ → (positions words : List ℕ) → List ℕ

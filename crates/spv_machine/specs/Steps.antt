@@ -8,7 +8,7 @@ use Rattle.spv_meaning.specs.Types.{number_in}
 use Rattle.spv_machine.specs.Access.{Access}
 use Rattle.spv_meaning.specs.Constants.{Table, Meaning, IsVariable}
 use Rattle.spv_machine.specs.Setting.{Setting, workgroup_id, local_id}
-use Rattle.spv_machine.specs.State.{Value, Words, Points, Data, Caller, State, At, Over, below, bind, bind_all, is_volatile_id, value, values, words_of_value}
+use Rattle.spv_machine.specs.State.{Value, Words, Points, Data, Caller, State, At, Over, below, bind, bind_all, is_volatile_id, value, some_cons, values, words_of_value}
 use Rattle.spv_machine.specs.Operations.{Outcome, Does, Wants, Fails, outcome}
 
 abbrev pub Next : Type 0
@@ -45,12 +45,8 @@ abbrev pub phi_results : List Statement → List ℕ
 phi_results (says.Phi t r pairs ∷ rest) = r ∷ phi_results rest
 phi_results other = []
 
-abbrev pub id_cons : Option ℕ → Option (List ℕ) → Option (List ℕ)
-id_cons (Some id) (Some ids) = Some (id ∷ ids)
-id_cons id ids = None
-
 abbrev pub phi_sources : List Statement → (block : ℕ) → Option (List ℕ)
-phi_sources (says.Phi t r pairs ∷ rest) block = id_cons (from_block pairs block) (phi_sources rest block)
+phi_sources (says.Phi t r pairs ∷ rest) block = some_cons (from_block pairs block) (phi_sources rest block)
 phi_sources other block = Some []
 
 abbrev pub behind_phis : List Statement → List Statement
@@ -69,17 +65,23 @@ branches c callers block d label =
     given_some (values c d ids) (λ vs.
     Goes (At callers (behind_phis target) label (bind_all (paired (phi_results target) vs) d)))))
 
+-- the target of the first case of an OpSwitch with this literal, else the default
+abbrev pub chosen : (word default : ℕ) → (cases : List (ℕ × ℕ)) → ℕ
+chosen word default [] = default
+chosen word default (c ∷ cs) = cond (c.0 == word) c.1 (chosen word default cs)
+
 -- ---- calls
 
 -- a parameter has the argument's words or place; it is volatile where it is decorated so
 abbrev pub passed : Setting → (parameter : ℕ) → Value → Value
-passed c parameter (Words ws) = Words ws
+passed c parameter (Words t ws) = Words t ws
 passed c parameter (Points p) = Points (record p { volatile = is_volatile_id c parameter })
 
 -- behind the parameters and the first label of a function, in a new frame
 abbrev pub enters : Setting → List Caller → List Statement → List Value → List (ℕ × Value) → Data → Next
 enters c callers (says.FunctionParameter t r ∷ rest) (v ∷ vs) bound d = enters c callers rest vs ((r, passed c r v) ∷ bound) d
-enters c callers (says.Label r ∷ rest) [] bound d = Goes (At callers rest r (record d { frames = record { values = bound; variables = [] } ∷ d.frames }))
+enters c callers (says.Label r ∷ rest) [] bound d =
+    Goes (At callers rest r (record d { frames = record { values = bound; variables = [] } ∷ d.frames }))
 enters c callers other vs bound d = IsStuck
 
 -- a call's result, where the callee has a value
@@ -104,7 +106,9 @@ acts c callers block d [] = IsStuck
 acts c callers block d (says.Merge ∷ rest) = Goes (At callers rest block d)
 acts c callers block d (says.Branch target ∷ rest) = branches c callers block d target
 acts c callers block d (says.BranchConditional condition target other ∷ rest) =
-    given_some (words_of_value (value c d condition)) (λ ws. cond (number_in ws == 1) (branches c callers block d target) (branches c callers block d other))
+    given_some (words_of_value (value c d condition)) (λ ws. branches c callers block d (cond (number_in ws == 1) target other))
+acts c callers block d (says.Switch selector default cases ∷ rest) =
+    given_some (words_of_value (value c d selector)) (λ ws. branches c callers block d (chosen (number_in ws) default cases))
 acts c callers block d (says.Return ∷ rest) = Goes (returns_to callers None d)
 acts c callers block d (says.ReturnValue result_id ∷ rest) = given_some (value c d result_id) (λ v. Goes (returns_to callers (Some v) d))
 acts c callers block d (says.FunctionCall t r function arguments ∷ rest) =

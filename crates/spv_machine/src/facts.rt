@@ -9,23 +9,23 @@ ghost use Rattle.spv_value.specs.Arith.{i_mul};
 ghost use Rattle.spv_meaning.specs.Statements.{LocalSize, is_debug};
 ghost use Rattle.spv_machine.specs.Access.{Fences, Barriers};
 ghost use Rattle.spv_machine.specs.State.{read_held};
-ghost use Rattle.spv_meaning.specs.Types.{Array, RuntimeArray, Vector, Struct, Member, NoMember, cells, spots};
+ghost use Rattle.spv_meaning.specs.Types.{Array, RuntimeArray, Vector, Struct, Member, NoMember};
 ghost use Rattle.spv_machine.specs.Places.{Buffer, Uniform, Push, Workgroup, Private, object_at, locate, and_then};
 ghost use Rattle.spv_machine.specs.Dispatch.{Bound, Dispatch, IsDispatch};
-ghost use Rattle.spv_meaning.specs.Constants.{table_of, type_at, words_at};
-ghost use Rattle.spv_machine.specs.Setting.{setting, array_lengths, size_for, builtin_words, workgroup_id, local_id};
+ghost use Rattle.spv_meaning.specs.Constants.{table_of};
+ghost use Rattle.spv_machine.specs.Setting.{size_for, builtin_words, workgroup_id, local_id};
 ghost use Rattle.spv_machine.specs.Effects.{Shared, after, answer, is_barrier};
 ghost use Rattle.spv_machine.specs.Steps.{first_state};
-ghost use Rattle.spv_machine.specs.Machine.{Fits, workgroup_size, Trace, Ends, Finals, setting_of, PrivateStep, Standing, Const, Cells, Spots};
+ghost use Rattle.spv_machine.specs.Machine.{Fits, workgroup_size, Trace, Ends, Finals, setting_of, PrivateStep, Standing};
 ghost use Rattle.spv_machine.specs.Laws.{KeepsWords, MeansSame};
 ghost use Rattle.spv_machine.specs.Doubling.{doubling, stripped, doubling_by_two, doubling_one_word, doubling_behind, doubling_apart, doubling_twice, volatile_variable, volatile_member, volatile_load, unsized, squaring, store_dropped, constant_changed, body_swapped, offset_dropped, stride_dropped, on, buffer};
-ghost use Rattle.spv_machine.specs.Facts.{one_by_one, volatilities, at_word, doubling_load, doubling_store, atomic, storing, loading, holding, group, uint, pairs_type, pairs, alone_in, swapping, calling, beginning, ordering, order, passing, unknown, specialising, sized_by_modes, sized_by_constant, reading, no_data, at_words};
+ghost use Rattle.spv_machine.specs.Facts.{one_by_one, volatilities, at_word, doubling_load, doubling_store, atomic, storing, loading, holding, group, uint, pairs_type, pairs, alone_in, swapping, calling, beginning, ordering, order, passing, unknown, sized_by_modes, sized_by_constant, reading, no_data, at_words};
 
 /// The doubling shader leaves the buffer 5, 6, 7 as 10, 12, 14, before and after its debug instructions are dropped,
 /// though most of its 64 invocations are past the end. Each takes seven steps. It loads and stores at its own word; an
 /// answer is read modulo 2^32, a missing word is 0, and further words do not count. Three private steps lead before the
 /// load. An array may begin behind a member, and its elements may lie apart.
-#[tactic(auto, unfolding(spv_module::specs::Code::cut, spv_words::specs::Words::bytes_of_words, spv_meaning::specs::Statements::statements_in, crate::specs::Setting::setting, crate::specs::Places::locate, crate::specs::Operations::outcome, crate::specs::Steps::look, crate::specs::Steps::first_state, crate::specs::Machine::Trace, spv_value::specs::Eval::Eval, spv_value::specs::Eval::op_rules, spv_value::specs::Arith::i_mul, spv_value::specs::Numbers::wrapped))]
+#[tactic(auto, unfolding(spv_module::specs::Code::cut, spv_words::specs::Words::bytes_of_words, spv_meaning::specs::Statements::statements_in, crate::specs::Setting::setting, crate::specs::Places::locate, crate::specs::Operations::outcome, crate::specs::Steps::look, crate::specs::Steps::first_state, crate::specs::Machine::Trace, spv_meaning::specs::Computations::computed, spv_value::specs::Eval::Eval, spv_value::specs::Eval::op_rules, spv_value::specs::Arith::i_mul, spv_value::specs::Numbers::wrapped))]
 pub fn facts_of_doubling()
     ensures doubles { Finals doubling (on (5 ∷ 6 ∷ 7 ∷ [])) (buffer (10 ∷ 12 ∷ 14 ∷ [])) }
     ensures strips { KeepsWords (λ i. not (is_debug i)) doubling stripped }
@@ -55,7 +55,7 @@ pub fn facts_of_wrong_passes()
 /// inside an element, the element is outside, and so is an index past the array's length. A negative index is outside.
 /// A chain that ends at an array has no words and is never past the end; one that ends at an object that passes the end
 /// is Nowhere. A whole read or write that passes the end of its memory is one at Nowhere.
-#[tactic(auto, unfolding(spv_module::specs::Code::cut, spv_words::specs::Words::bytes_of_words, spv_meaning::specs::Statements::statements_in, crate::specs::Setting::setting, crate::specs::Places::locate, crate::specs::Operations::outcome, crate::specs::Steps::look, crate::specs::Steps::first_state, crate::specs::Machine::Trace, spv_value::specs::Eval::Eval, spv_value::specs::Eval::op_rules, spv_value::specs::Arith::i_mul, spv_value::specs::Numbers::wrapped, crate::specs::Effects::after, crate::specs::Effects::answer))]
+#[tactic(auto, unfolding(spv_module::specs::Code::cut, spv_words::specs::Words::bytes_of_words, spv_meaning::specs::Statements::statements_in, crate::specs::Setting::setting, crate::specs::Places::locate, crate::specs::Operations::outcome, crate::specs::Steps::look, crate::specs::Steps::first_state, crate::specs::Machine::Trace, spv_meaning::specs::Computations::computed, spv_value::specs::Eval::Eval, spv_value::specs::Eval::op_rules, spv_value::specs::Arith::i_mul, spv_value::specs::Numbers::wrapped, crate::specs::Effects::after, crate::specs::Effects::answer))]
 pub fn facts_of_places()
     ensures past { Trace doubling (on (5 ∷ 6 ∷ 7 ∷ [])) 3 7 ((9 ∷ []) ∷ [] ∷ []) ≡ record { accesses = doubling_load None ∷ doubling_store None 18 ∷ []; end = Returned } }
     ensures reads_zero { (m : Shared) → answer (doubling_load None) m ≡ 0 ∷ [] }
@@ -159,7 +159,7 @@ pub fn facts_of_effects()
 /// callee, and a return behind the call, each by one step; labels are none. A variable of a function begins as zeros at
 /// each call. Private variables begin with their initialiser, or as zeros. Atomics, fences and barriers are accesses.
 /// An instruction without a meaning leaves the invocation stuck.
-#[tactic(auto, unfolding(crate::specs::Setting::setting, crate::specs::Places::locate, crate::specs::Operations::outcome, crate::specs::Steps::look, crate::specs::Steps::first_state, spv_value::specs::Eval::Eval, spv_value::specs::Eval::op_rules, spv_value::specs::Arith::i_add, spv_value::specs::Numbers::wrapped))]
+#[tactic(auto, unfolding(crate::specs::Setting::setting, crate::specs::Places::locate, crate::specs::Operations::outcome, crate::specs::Steps::look, crate::specs::Steps::first_state, spv_meaning::specs::Computations::computed, spv_value::specs::Eval::Eval, spv_value::specs::Eval::op_rules, spv_value::specs::Arith::i_add, spv_value::specs::Numbers::wrapped))]
 pub fn facts_of_control()
     ensures swaps { alone_in swapping 7 ([] ∷ []) ≡ record { accesses = doubling_store (at_word 0) 1 ∷ []; end = Returned } }
     ensures swaps_in_seven { (alone_in swapping 6 ([] ∷ [])).end ≡ Runs }

@@ -1,8 +1,8 @@
 -- What an operation makes of the words of its operands: in a body of those of values, outside functions of those of constants.
-use Rattle.std.specs.Prelude.{ℕ, ◌+◌, ◌==◌, false, cond, List, [], ◌++◌, map, take, drop, replicate, slice_index, slice_index_or, Option, Some, None}
+use Rattle.std.specs.Prelude.{ℕ, ◌+◌, ◌==◌, false, cond, List, [], ◌++◌, map, take, drop, slice_index, slice_index_or, Option, Some, None}
 use Rattle.std.specs.List.{flat_map}
 use Rattle.spv_value.specs.Eval.{Eval, ExtEval}
-use Rattle.spv_meaning.specs.Types.{DataType, Void, cells, number_in}
+use Rattle.spv_meaning.specs.Types.{DataType, Void, cells, zeros, number_in}
 use Rattle.spv_meaning.specs.Parts.{Part, part, packed_part}
 
 pub data Computation : Type 0 where
@@ -42,7 +42,7 @@ shuffled words literal = cond (literal == 0xFFFF_FFFF) 0 (slice_index words lite
 
 -- the words of a part; zeros where there is none
 abbrev pub extracted : DataType → List ℕ → Option Part → List ℕ
-extracted t words None = replicate (cells t) 0
+extracted t words None = zeros t
 extracted t words (Some p) = take (cells p.type) (drop p.first words)
 
 -- words where those of a part are others; the words where there is none

@@ -1,5 +1,5 @@
 -- What ids outside functions stand for, under a specialisation: types, constants and variables.
-use Rattle.std.specs.Prelude.{ℕ, suc, map, true, cond, ◌==◌, ◌&&◌, nat_eq, List, [], ◌∷◌, ◌++◌, replicate, slice_index, Option, Some, None, is_some}
+use Rattle.std.specs.Prelude.{ℕ, suc, map, true, cond, ◌==◌, ◌&&◌, nat_eq, List, [], ◌∷◌, ◌++◌, slice_index, Option, Some, None, is_some}
 use Rattle.std.specs.Map.{lookup}
 use Rattle.std.specs.Option.{unwrap_or, option_map}
 use Rattle.spv_opcodes.specs.declared.decoration.TheConstants as decoration
@@ -7,7 +7,8 @@ use Rattle.spv_opcodes.specs.declared.storage_class.TheConstants as storage_clas
 use Rattle.spv_meaning.specs.Statements as says
 use Rattle.spv_meaning.specs.Statements.{Statement}
 use Rattle.spv_meaning.specs.Computations.{Typed, no_value, computed}
-use Rattle.spv_meaning.specs.Types.{DataType, Void, Boolean, Integer, Vector, Array, RuntimeArray, Struct, Members, NoMember, Member, cells, booleans, number_in, not_negative, fitted}
+pub use Rattle.spv_meaning.specs.Types.{zeros}
+use Rattle.spv_meaning.specs.Types.{DataType, Void, Boolean, Integer, Vector, Array, RuntimeArray, Struct, Members, NoMember, Member, booleans, number_in, not_negative, fitted}
 
 -- words for constants by their SpecId; of two of one number the first counts
 abbrev pub Specialisation : Type 0
@@ -86,19 +87,21 @@ length_in m = 0
 abbrev pub length_at : Table → ℕ → ℕ
 length_at table id = length_in (meaning table id)
 
+-- the stride of an array type, in bytes
+abbrev pub stride_of : List Statement → (id : ℕ) → Option ℕ
+stride_of all id = first_literal (decorated all id decoration.ARRAY_STRIDE)
+
 -- the members of a struct type from a number on
 abbrev pub members_of : List Statement → Table → (id number : ℕ) → (types : List ℕ) → Members
 members_of all table id number [] = NoMember
 members_of all table id number (t ∷ ts) =
-    Member (first_literal (member_decorated all id number decoration.OFFSET)) (is_some (member_decorated all id number decoration.VOLATILE)) (type_at table t) (members_of all table id (suc number) ts)
+    Member (first_literal (member_decorated all id number decoration.OFFSET)) (is_some (member_decorated all id number decoration.VOLATILE)) (type_at table t)
+    (members_of all table id (suc number) ts)
 
 -- the words of constants, one after another
 abbrev pub composed : Table → List ℕ → List ℕ
 composed table [] = []
 composed table (id ∷ ids) = words_at table id ++ composed table ids
-
-abbrev pub zeros : DataType → List ℕ
-zeros t = replicate (cells t) 0
 
 -- the words of a constant with a SpecId: those given, else its own
 abbrev pub given : (spec_id : Option (List ℕ)) → Specialisation → DataType → (default : List ℕ) → List ℕ
@@ -118,15 +121,16 @@ abbrev pub defined : List Statement → Specialisation → Table → Statement �
 defined all s table (says.TypeBool r) = Some (r, IsType Boolean)
 defined all s table (says.TypeInt r width signedness) = Some (r, IsType (Integer width (signedness == 1)))
 defined all s table (says.TypeVector r component count) = Some (r, IsType (Vector count (type_at table component)))
-defined all s table (says.TypeArray r element length) = Some (r, IsType (Array (first_literal (decorated all r decoration.ARRAY_STRIDE)) (length_at table length) (type_at table element)))
-defined all s table (says.TypeRuntimeArray r element) = Some (r, IsType (RuntimeArray (first_literal (decorated all r decoration.ARRAY_STRIDE)) (type_at table element)))
+defined all s table (says.TypeArray r element length) = Some (r, IsType (Array (stride_of all r) (length_at table length) (type_at table element)))
+defined all s table (says.TypeRuntimeArray r element) = Some (r, IsType (RuntimeArray (stride_of all r) (type_at table element)))
 defined all s table (says.TypeStruct r members) = Some (r, IsType (Struct (members_of all table r 0 members)))
 defined all s table (says.TypePointer r class target) = Some (r, IsPointer class (type_at table target))
 defined all s table (says.Constant t r words) = Some (r, IsConstant (type_at table t) words)
 defined all s table (says.ConstantComposite t r parts) = Some (r, IsConstant (type_at table t) (composed table parts))
 defined all s table (says.ConstantNull t r) = Some (r, IsConstant (type_at table t) (zeros (type_at table t)))
 defined all s table (says.Undef t r) = Some (r, IsConstant (type_at table t) (zeros (type_at table t)))
-defined all s table (says.SpecConstant t r words) = Some (r, IsConstant (type_at table t) (given (decorated all r decoration.SPEC_ID) s (type_at table t) words))
+defined all s table (says.SpecConstant t r words) =
+    Some (r, IsConstant (type_at table t) (given (decorated all r decoration.SPEC_ID) s (type_at table t) words))
 defined all s table (says.SpecConstantOp computation t r operands) =
     Some (r, IsConstant (type_at table t) (computed computation (type_at table t) (map (typed_at table) operands)))
 defined all s table (says.Variable t r class initialiser) =

@@ -153,10 +153,11 @@ memory_rows =
     ∷ (op.CONTROL_BARRIER, λ ws. ControlBarrier (slice_index ws 0) (slice_index ws 1) (slice_index ws 2))
     ∷ (op.MEMORY_BARRIER, λ ws. MemoryBarrier (slice_index ws 0) (slice_index ws 1))
     ∷ (op.ATOMIC_STORE, λ ws. Atomic op.ATOMIC_STORE [] [] (slice_index ws 0) (slice_index ws 1) (take 1 (drop 2 ws)) (drop 3 ws))
-    ∷ (op.ATOMIC_COMPARE_EXCHANGE, λ ws. Atomic op.ATOMIC_COMPARE_EXCHANGE (take 1 ws) (take 1 (drop 1 ws)) (slice_index ws 2) (slice_index ws 3) (take 2 (drop 4 ws)) (drop 6 ws))
+    ∷ (op.ATOMIC_COMPARE_EXCHANGE, λ ws.
+        Atomic op.ATOMIC_COMPARE_EXCHANGE (take 1 ws) (take 1 (drop 1 ws)) (slice_index ws 2) (slice_index ws 3) (take 2 (drop 4 ws)) (drop 6 ws))
     ∷ map atomic
-        (op.ATOMIC_LOAD ∷ op.ATOMIC_EXCHANGE ∷ op.ATOMIC_I_INCREMENT ∷ op.ATOMIC_I_DECREMENT ∷ op.ATOMIC_I_ADD ∷ op.ATOMIC_I_SUB ∷ op.ATOMIC_S_MIN ∷ op.ATOMIC_U_MIN
-        ∷ op.ATOMIC_S_MAX ∷ op.ATOMIC_U_MAX ∷ op.ATOMIC_AND ∷ op.ATOMIC_OR ∷ op.ATOMIC_XOR ∷ [])
+    (op.ATOMIC_LOAD ∷ op.ATOMIC_EXCHANGE ∷ op.ATOMIC_I_INCREMENT ∷ op.ATOMIC_I_DECREMENT ∷ op.ATOMIC_I_ADD ∷ op.ATOMIC_I_SUB ∷ op.ATOMIC_S_MIN ∷ op.ATOMIC_U_MIN
+    ∷ op.ATOMIC_S_MAX ∷ op.ATOMIC_U_MAX ∷ op.ATOMIC_AND ∷ op.ATOMIC_OR ∷ op.ATOMIC_XOR ∷ [])
 
 -- what an instruction that has a result's type and a result computes of n ids and of what stands behind them
 abbrev pub operation : (n : ℕ) → (List ℕ → Computation) → List ℕ → Statement
@@ -181,14 +182,14 @@ operation_rows =
     ∷ (op.COPY_OBJECT, λ ws. CopyObject (slice_index ws 0) (slice_index ws 1) (slice_index ws 2))
     ∷ (op.COPY_LOGICAL, operation_on_all CopiesLogical)
     ∷ map evaluated
-        (op.BITCAST ∷ op.S_NEGATE ∷ op.ANY ∷ op.ALL ∷ op.LOGICAL_NOT ∷ op.NOT ∷ op.BIT_REVERSE ∷ op.BIT_COUNT
-        ∷ op.I_ADD ∷ op.I_SUB ∷ op.I_MUL ∷ op.U_DIV ∷ op.S_DIV ∷ op.U_MOD ∷ op.S_REM ∷ op.S_MOD
-        ∷ op.I_ADD_CARRY ∷ op.I_SUB_BORROW ∷ op.U_MUL_EXTENDED ∷ op.S_MUL_EXTENDED
-        ∷ op.LOGICAL_EQUAL ∷ op.LOGICAL_NOT_EQUAL ∷ op.LOGICAL_OR ∷ op.LOGICAL_AND
-        ∷ op.I_EQUAL ∷ op.I_NOT_EQUAL ∷ op.U_GREATER_THAN ∷ op.S_GREATER_THAN ∷ op.U_GREATER_THAN_EQUAL ∷ op.S_GREATER_THAN_EQUAL
-        ∷ op.U_LESS_THAN ∷ op.S_LESS_THAN ∷ op.U_LESS_THAN_EQUAL ∷ op.S_LESS_THAN_EQUAL
-        ∷ op.SHIFT_RIGHT_LOGICAL ∷ op.SHIFT_RIGHT_ARITHMETIC ∷ op.SHIFT_LEFT_LOGICAL ∷ op.BITWISE_OR ∷ op.BITWISE_XOR ∷ op.BITWISE_AND
-        ∷ op.SELECT ∷ op.BIT_FIELD_INSERT ∷ op.BIT_FIELD_S_EXTRACT ∷ op.BIT_FIELD_U_EXTRACT ∷ [])
+    (op.BITCAST ∷ op.S_NEGATE ∷ op.ANY ∷ op.ALL ∷ op.LOGICAL_NOT ∷ op.NOT ∷ op.BIT_REVERSE ∷ op.BIT_COUNT
+    ∷ op.I_ADD ∷ op.I_SUB ∷ op.I_MUL ∷ op.U_DIV ∷ op.S_DIV ∷ op.U_MOD ∷ op.S_REM ∷ op.S_MOD
+    ∷ op.I_ADD_CARRY ∷ op.I_SUB_BORROW ∷ op.U_MUL_EXTENDED ∷ op.S_MUL_EXTENDED
+    ∷ op.LOGICAL_EQUAL ∷ op.LOGICAL_NOT_EQUAL ∷ op.LOGICAL_OR ∷ op.LOGICAL_AND
+    ∷ op.I_EQUAL ∷ op.I_NOT_EQUAL ∷ op.U_GREATER_THAN ∷ op.S_GREATER_THAN ∷ op.U_GREATER_THAN_EQUAL ∷ op.S_GREATER_THAN_EQUAL
+    ∷ op.U_LESS_THAN ∷ op.S_LESS_THAN ∷ op.U_LESS_THAN_EQUAL ∷ op.S_LESS_THAN_EQUAL
+    ∷ op.SHIFT_RIGHT_LOGICAL ∷ op.SHIFT_RIGHT_ARITHMETIC ∷ op.SHIFT_LEFT_LOGICAL ∷ op.BITWISE_OR ∷ op.BITWISE_XOR ∷ op.BITWISE_AND
+    ∷ op.SELECT ∷ op.BIT_FIELD_INSERT ∷ op.BIT_FIELD_S_EXTRACT ∷ op.BIT_FIELD_U_EXTRACT ∷ [])
 
 abbrev pub by_row : Option (List ℕ → Statement) → List ℕ → Statement
 by_row None ws = Unknown

@@ -1,5 +1,5 @@
 -- Types of values, and the words of a value: how many they are, which are booleans, and at which positions they lie.
-use Rattle.std.specs.Prelude.{ℕ, zero, suc, ◌+◌, ◌*◌, ◌/◌, ◌%◌, ◌^◌, Bool, true, false, cond, ◌==◌, nat_lt, List, [], ◌∷◌, ◌++◌, map, length, Option, Some, None}
+use Rattle.std.specs.Prelude.{ℕ, zero, suc, ◌+◌, ◌*◌, ◌/◌, ◌%◌, ◌^◌, Bool, true, false, cond, ◌==◌, nat_lt, List, [], ◌∷◌, ◌++◌, map, replicate, length, Option, Some, None}
 
 -- The stride of an array and the offset of a member are in bytes, where a decoration gives them. A member may be volatile.
 mutual
@@ -42,6 +42,10 @@ abbrev mutual
   member_cells NoMember = 0
   member_cells (Member offset volatile t rest) = cells t + member_cells rest
 
+-- what a value is that nothing was put into
+abbrev pub zeros : DataType → List ℕ
+zeros t = replicate (cells t) 0
+
 -- which words of a value are booleans
 abbrev mutual
   pub booleans : DataType → List Bool
@@ -80,7 +84,8 @@ abbrev mutual
   -- the first member is at `packed` if it is not laid out
   pub member_spots : (laid : Bool) (packed : ℕ) → Members → List ℕ
   member_spots laid packed NoMember = []
-  member_spots laid packed (Member offset volatile t rest) = moved_by (cond laid (in_words offset) packed) (spots laid t) ++ member_spots laid (packed + cells t) rest
+  member_spots laid packed (Member offset volatile t rest) =
+    moved_by (cond laid (in_words offset) packed) (spots laid t) ++ member_spots laid (packed + cells t) rest
 
 -- words as one number, the lowest first
 abbrev pub number_in : List ℕ → ℕ

@@ -5,6 +5,12 @@
 //! called.
 #![tactic(auto)]
 
-mod facts;
+mod computations;
+mod constants;
+mod statements;
 
-pub use facts::facts_of_constants;
+pub use computations::{facts_of_computations, facts_of_extended_instructions};
+pub use constants::{
+    facts_of_constants, facts_of_meanings, facts_of_parts, facts_of_specialisation,
+};
+pub use statements::{facts_of_declarations, facts_of_instructions, facts_of_rows};
