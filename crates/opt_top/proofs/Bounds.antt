@@ -6,8 +6,7 @@ use Rattle.std.proofs.lemmas.Bool.{false≢true, leb-false}
 use Rattle.spv_grammar.specs.declared.kind.Role.{Role}
 use Rattle.spv_grammar.specs.Operands.{roles_of}
 use Rattle.spv_grammar.specs.Roles.{names_id}
-use Rattle.spv_form.specs.Bound.{named_ids, greatest, bound_of_ids}
-use Rattle.spv_form.specs.SingleBlock.{words_with}
+use Rattle.spv_form.specs.Bound.{words_with, named_ids, greatest, bound_of_ids}
 use Rattle.spv_module.specs.Instruction.{Instruction, roles, parts, instruction_rules, roles_rules, is_out_of_bound}
 use Rattle.spv_module.proofs.Ids.{is_bad_part, no_bad_parts}
 use Rattle.std.specs.List.{slice_index}

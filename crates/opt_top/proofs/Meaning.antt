@@ -3,18 +3,16 @@ use Rattle.std.proofs.Common.{◌≡◌, ℕ, ◌≤◌, Bool, true, false, ◌&
 use Rattle.std.specs.List.{slice_index}
 use Rattle.std.proofs.lemmas.Bool.Decides.{nat_tests}
 use Rattle.spv_base.specs.declared.fault.Refusal.{Refusal}
-use Rattle.spv_form.specs.SingleBlock.{single_block}
 use Rattle.spv_machine.specs.Dispatch.{Dispatch}
 use Rattle.spv_machine.specs.Laws.{MeansSame}
 use Rattle.spv_meaning.specs.Statements.{is_silent, words_of}
 use Rattle.spv_machine.proofs.Silence.{silence_law}
 use Rattle.spv_machine.proofs.Spelling.{spelled_again, cut_counted, filtered_counted}
 use Rattle.spv_module.specs.Code.{Code, code_of, cut, spelling}
-use Rattle.spv_module.specs.Decode.{first_in_decode}
 use Rattle.spv_module.specs.Instruction.{Instruction}
 use Rattle.spv_words.specs.declared.fault.WordsFault.{WordsFault}
 use Rattle.spv_words.specs.Words.{words_in, HasHeader}
-use Rattle.opt_top.specs.Answer.{in_form, in_rules, of_words, module_in, stripped}
+use Rattle.opt_top.specs.Answer.{first_in_module, in_rules, of_words, module_in, stripped}
 use Rattle.opt_top.specs.Means.{Means}
 use Rattle.opt_top.specs.Strip.{is_debug, stays, stripped_insts}
 
@@ -24,17 +22,13 @@ pub record IsMadeOf (bytes : List ℕ) (code : Code) : Type 0 where
   pub read : words_in bytes ≡ Ok words
   pub made : code ≡ code_of words
 
-of_form : (form : Bool) (words : List ℕ) (code : Code) → in_form form words ≡ Ok code → code ≡ code_of words
-of_form true words code e = cc
-of_form false words code e = cc
-
 of_rules : (broken : Option Refusal) (words : List ℕ) (code : Code) → in_rules broken words ≡ Ok code → code ≡ code_of words
 of_rules (Some refusal) words code e = cc
-of_rules None words code e = of_form (single_block (code_of words).insts) words code e
+of_rules None words code e = cc
 
 of_read : (bytes : List ℕ) (read : Result (List ℕ) WordsFault) (code : Code) → words_in bytes ≡ read → of_words read ≡ Ok code → IsMadeOf bytes code
 of_read bytes (Err fault) code e h = cc
-of_read bytes (Ok words) code e h = record { words = words; read = e; made = of_rules (first_in_decode words) words code h }
+of_read bytes (Ok words) code e h = record { words = words; read = e; made = of_rules (first_in_module words (code_of words).insts) words code h }
 
 made_of : (bytes : List ℕ) (code : Code) → module_in bytes ≡ Ok code → IsMadeOf bytes code
 unfolding module_in

@@ -1,12 +1,15 @@
 -- What the optimiser makes of the bytes of its input.
-use Rattle.std.specs.Prelude.{◌≡◌, ℕ, Bool, true, false, cond, List, length, Option, Some, None, Result, Ok, Err, ⊤}
+use Rattle.std.specs.Prelude.{◌≡◌, ℕ, List, length, Option, Some, None, Result, Ok, Err, ⊤}
 use Rattle.spv_base.specs.declared.fault.Fault.{Fault}
 use Rattle.spv_base.specs.declared.fault.Fault.TheVariants as faults
 use Rattle.spv_base.specs.declared.fault.Refusal.{Refusal}
+use Rattle.spv_declarations.specs.Broken.{group_3}
 use Rattle.spv_form.specs.Bound.{bound_of_ids}
-use Rattle.spv_form.specs.SingleBlock.{single_block}
+use Rattle.spv_form.specs.OneBlock.{first_outside}
 use Rattle.spv_module.specs.Code.{Code, code_of, spelling}
 use Rattle.spv_module.specs.Decode.{first_in_decode}
+use Rattle.spv_module.specs.First.{first, first_group}
+use Rattle.spv_module.specs.Instruction.{Instruction}
 use Rattle.spv_words.specs.declared.fault.WordsFault.{WordsFault}
 use Rattle.spv_words.specs.declared.fault.WordsFault.TheVariants.{ShortInput, OddLength, NotSpirv, NoMemory}
 use Rattle.spv_words.specs.Words.{words_in, bytes_of_words}
@@ -29,19 +32,19 @@ stripped code = record {
   insts = stripped_insts code.insts;
 }
 
--- 190 NotYet, until types stand: a module that breaks no rule is of the single-block form
-abbrev pub in_form : Bool → List ℕ → Result Code Refusal
-in_form true words = Ok (code_of words)
-in_form false words = Err (at 0 190)
+-- the first broken rule of the lowest group that has one: 101 to 109 and 201 to 205, then 301 to 309; where there is none, 190 NotYet at the first
+-- place that is not of the one-block form
+abbrev pub first_in_module : List ℕ → List Instruction → Option Refusal
+first_in_module words insts = first_group (first_in_decode words) (first_group (first (group_3 insts)) (first_outside (length words) insts))
 
--- a module is refused by the first broken rule of the lowest group that has one
+-- the module that words spell, where no rule is broken
 abbrev pub in_rules : Option Refusal → List ℕ → Result Code Refusal
 in_rules (Some refusal) words = Err refusal
-in_rules None words = in_form (single_block (code_of words).insts) words
+in_rules None words = Ok (code_of words)
 
 abbrev pub of_words : Result (List ℕ) WordsFault → Result Code Refusal
 of_words (Err fault) = Err (at 0 (byte_rule fault))
-of_words (Ok words) = in_rules (first_in_decode words) words
+of_words (Ok words) = in_rules (first_in_module words (code_of words).insts) words
 
 unfoldable pub module_in : List ℕ → Result Code Refusal
 module_in bytes = of_words (words_in bytes)
@@ -67,6 +70,13 @@ AnswersModule expected (Ok code) = expected ≡ Ok code
 AnswersModule expected (Err (faults.Refused refusal)) = expected ≡ Err refusal
 AnswersModule expected (Err faults.Nesting) = ⊥
 AnswersModule expected (Err faults.NoMemory) = ⊤
+
+-- what a look at a module answers: this refusal or none, or that memory was wanting
+abbrev pub Finds : Option Refusal → Result ⊤ Fault → Type 0
+Finds expected (Ok done) = expected ≡ None
+Finds expected (Err (faults.Refused refusal)) = expected ≡ Some refusal
+Finds expected (Err faults.Nesting) = ⊥
+Finds expected (Err faults.NoMemory) = ⊤
 
 -- the fault of bytes that break a rule
 abbrev pub ByteFault : WordsFault → Fault → Type 0

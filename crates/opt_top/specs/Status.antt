@@ -34,7 +34,16 @@ rule_text rule =
     (cond (rule == 203) (codes "203 MissingMemoryModel")
     (cond (rule == 204) (codes "204 MissingEntryPoint")
     (cond (rule == 205) (codes "205 FunctionShape")
-    [])))))))))))))))))
+    (cond (rule == 301) (codes "301 IdTwice")
+    (cond (rule == 302) (codes "302 IdUnknown")
+    (cond (rule == 303) (codes "303 BadType")
+    (cond (rule == 304) (codes "304 BadConstant")
+    (cond (rule == 305) (codes "305 BadSpecOp")
+    (cond (rule == 306) (codes "306 BadDecoration")
+    (cond (rule == 307) (codes "307 BadLayout")
+    (cond (rule == 308) (codes "308 BadGlobal")
+    (cond (rule == 309) (codes "309 TypeDepth")
+    []))))))))))))))))))))))))))
 
 -- a text, a number and a line's end
 abbrev pub number_line : List ℕ → ℕ → List ℕ

@@ -37,6 +37,15 @@ fn rule_text(rule: u16) -> &'static str
         rule::MISSING_MEMORY_MODEL => "203 MissingMemoryModel",
         rule::MISSING_ENTRY_POINT => "204 MissingEntryPoint",
         rule::FUNCTION_SHAPE => "205 FunctionShape",
+        rule::ID_TWICE => "301 IdTwice",
+        rule::ID_UNKNOWN => "302 IdUnknown",
+        rule::BAD_TYPE => "303 BadType",
+        rule::BAD_CONSTANT => "304 BadConstant",
+        rule::BAD_SPEC_OP => "305 BadSpecOp",
+        rule::BAD_DECORATION => "306 BadDecoration",
+        rule::BAD_LAYOUT => "307 BadLayout",
+        rule::BAD_GLOBAL => "308 BadGlobal",
+        rule::TYPE_DEPTH => "309 TypeDepth",
         _ => "",
     }
 }

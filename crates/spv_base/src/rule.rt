@@ -59,3 +59,24 @@ pub const ID_TWICE: u16 = 301;
 
 /// An id that is named is defined nowhere, or by no instruction before a declaration that names it.
 pub const ID_UNKNOWN: u16 = 302;
+
+/// A declaration of a type is none of the profile, or occurs twice.
+pub const BAD_TYPE: u16 = 303;
+
+/// A constant does not fit its type.
+pub const BAD_CONSTANT: u16 = 304;
+
+/// An OpSpecConstantOp does not fit the operation that it names.
+pub const BAD_SPEC_OP: u16 = 305;
+
+/// A decoration does not fit its target, or is repeated.
+pub const BAD_DECORATION: u16 = 306;
+
+/// The type of a global variable of a buffer is not laid out.
+pub const BAD_LAYOUT: u16 = 307;
+
+/// A global variable does not fit its pointer, its storage class or its initial value.
+pub const BAD_GLOBAL: u16 = 308;
+
+/// A type nests more than 255 deep.
+pub const TYPE_DEPTH: u16 = 309;

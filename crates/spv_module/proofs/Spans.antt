@@ -1,11 +1,13 @@
 -- A list of instructions after more words were added behind them.
-use Rattle.std.proofs.Common.{◌≡◌, ℕ, ◌+◌, ◌-◌, ◌<◌, ◌≤◌, List, [], ◌∷◌, ◌++◌, length, get_or, take, drop, map, refl, sym, ap, subst, ◌∙◌, arith}
-use Rattle.std.specs.List.{All, AllByRecursion as ByRecursion, slice_range}
+use Rattle.std.proofs.Common.{◌≡◌, ℕ, ◌-◌, ◌≤◌, List, [], ◌∷◌, ◌++◌, length, get_or, take, drop, map, Option, Some, None, refl, sym, ap, subst, ◌∙◌, arith}
+use Rattle.std.specs.List.{All, AllByRecursion as ByRecursion, slice_get, slice_range}
+use Rattle.std.specs.Option.{option_map, unwrap_or}
 use Rattle.std.proofs.lemmas.List.{map-append, take-append-le, drop-append-le, take_all, drop_all, length-append, length-drop}
 use Rattle.std.proofs.lemmas.List.Elements.{All-push, recursion_from_All}
+use Rattle.std.proofs.lemmas.Option.{slice_get-map, slice_get_within, get_or_from_slice_get}
 use Rattle.spv_grammar.specs.declared.kind.Role.{Role}
 use Rattle.spv_module.specs.declared.list.Span.{Span}
-use Rattle.spv_module.specs.Instruction.{Instruction, IsInstruction}
+use Rattle.spv_module.specs.Instruction.{Instruction, IsInstruction, parts, roles}
 use Rattle.spv_module.specs.List.{instruction_at, IsSpan}
 
 -- what stands before the end stays
@@ -73,3 +75,21 @@ pub instructions-added : (words words2 ws : List ℕ) (roles roles2 rs : List Ro
 instructions-added words words2 ws roles roles2 rs spans spans2 span a =
     let at_words : slice_range (words ++ ws) span.start span.end ≡ ws = rw (a.starts, a.ends, a.words_are) (slice_range-added words ws) in
     rw (a.words_are, a.spans_are, map-append (instruction_at (words ++ ws)) spans (span ∷ []), instructions_stay words ws roles spans (recursion_from_All (IsSpan words roles) spans a.before), at_words) refl
+
+-- words of an instruction, which has the parts that they spell
+with_its_parts : (i : Instruction) (rs : List Role) → IsInstruction i.words rs → IsInstruction i.words (roles i)
+with_its_parts i rs whole = rw (ap parts whole.parted) whole
+
+spanned_here : (words : List ℕ) (parts_of : List Role) (spans : List Span) (k : ℕ) (i : Instruction) (found : Option Span) → All (IsSpan words parts_of) spans →
+    slice_get spans k ≡ found → option_map (instruction_at words) found ≡ Some i → IsInstruction i.words (roles i)
+spanned_here words parts_of spans k i None all e h = cc
+spanned_here words parts_of spans k i (Some span) all e h =
+    let span_at : get_or spans k span ≡ span = get_or_from_slice_get spans k span span e in
+    let whole : IsSpan words parts_of span = subst (IsSpan words parts_of) span_at (all k span (slice_get_within spans k span e)) in
+    let same : instruction_at words span ≡ i = ap (λ (o : Option Instruction). unwrap_or o i) h in
+    subst (λ (j : Instruction). IsInstruction j.words (roles j)) same (with_its_parts (instruction_at words span) (slice_range parts_of span.start span.end) whole.whole)
+
+-- each instruction of a list has the words and parts of one
+pub spanned : (words : List ℕ) (parts_of : List Role) (spans : List Span) (k : ℕ) (i : Instruction) → All (IsSpan words parts_of) spans →
+    slice_get (map (instruction_at words) spans) k ≡ Some i → IsInstruction i.words (roles i)
+spanned words parts_of spans k i all h = spanned_here words parts_of spans k i (slice_get spans k) all refl (sym (slice_get-map (instruction_at words) spans k) ∙ h)

@@ -37,6 +37,8 @@ impl Model for InstList {
 }
 
 impl InstList {
+    ghost use Rattle.std.specs.Prelude.{ℕ};
+    ghost use Rattle.spv_module.specs.Instruction.{Instruction, IsInstruction, roles};
     ghost use Rattle.spv_module.specs.View.{seen};
     ghost use Rattle.spv_module.specs.Inst.{held};
 
@@ -79,6 +81,13 @@ impl InstList {
         ensures { result ≡ length self.now }
     {
         self.spans.len()
+    }
+
+    /// Says of each instruction what is said of one that is read alone: its words are those of an instruction of the profile. Does nothing.
+    pub fn each_is_instruction(&self)
+        ensures { (k : ℕ) (i : Instruction) → slice_get self.now k ≡ Some i → IsInstruction i.words (roles i) }
+    {
+        let _spans = self.spans.len();
     }
 
     /// The instruction at a place, counted from 0.
