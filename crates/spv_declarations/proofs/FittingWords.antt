@@ -54,15 +54,18 @@ u_mod_fits a b h = either_fits (b == 0) 0 (a % b) (omega arith) (omega (arith, m
 
 s_div_fits : (a b : ℕ) → s_div 32 a b < 2 ^ 32
 unfolding s_div
-s_div_fits a b = either_fits (b == 0) 0 (wrapped 32 (int_div (signed 32 a) (signed 32 b))) (omega arith) (wrapped_fits (int_div (signed 32 a) (signed 32 b)))
+s_div_fits a b =
+    either_fits (b == 0) 0 (wrapped 32 (int_div (signed 32 a) (signed 32 b))) (omega arith) (wrapped_fits (int_div (signed 32 a) (signed 32 b)))
 
 s_rem_fits : (a b : ℕ) → s_rem 32 a b < 2 ^ 32
 unfolding s_rem
-s_rem_fits a b = either_fits (b == 0) 0 (wrapped 32 (int_rem (signed 32 a) (signed 32 b))) (omega arith) (wrapped_fits (int_rem (signed 32 a) (signed 32 b)))
+s_rem_fits a b =
+    either_fits (b == 0) 0 (wrapped 32 (int_rem (signed 32 a) (signed 32 b))) (omega arith) (wrapped_fits (int_rem (signed 32 a) (signed 32 b)))
 
 s_mod_fits : (a b : ℕ) → s_mod 32 a b < 2 ^ 32
 unfolding s_mod
-s_mod_fits a b = either_fits (b == 0) 0 (wrapped 32 (int_mod (signed 32 a) (signed 32 b))) (omega arith) (wrapped_fits (int_mod (signed 32 a) (signed 32 b)))
+s_mod_fits a b =
+    either_fits (b == 0) 0 (wrapped 32 (int_mod (signed 32 a) (signed 32 b))) (omega arith) (wrapped_fits (int_mod (signed 32 a) (signed 32 b)))
 
 right_fits : (a n : ℕ) → a < 2 ^ 32 → shift_right_logical 32 a n < 2 ^ 32
 unfolding shift_right_logical
@@ -70,7 +73,8 @@ right_fits a n h = either_fits (nat_lt n 32) (a / 2 ^ n) 0 (omega (arith, div-le
 
 arithmetic_fits : (a n : ℕ) → shift_right_arithmetic 32 a n < 2 ^ 32
 unfolding shift_right_arithmetic
-arithmetic_fits a n = either_fits (nat_lt n 32) (wrapped 32 (div_down (signed 32 a) (2 ^ n))) 0 (wrapped_fits (div_down (signed 32 a) (2 ^ n))) (omega arith)
+arithmetic_fits a n =
+    either_fits (nat_lt n 32) (wrapped 32 (div_down (signed 32 a) (2 ^ n))) 0 (wrapped_fits (div_down (signed 32 a) (2 ^ n))) (omega arith)
 
 left_fits : (a n : ℕ) → shift_left_logical 32 a n < 2 ^ 32
 unfolding shift_left_logical

@@ -26,15 +26,18 @@ pub record Front (insts : List Instruction) (k : ℕ) : Type 0 where
 function_silent : (insts : List Instruction) (table : Table) (i : Instruction) → is_function i ≡ true → entry (says insts) table i ≡ None
 function_silent insts table i h = entry-by (says insts) table i op.FUNCTION (eqb-true (opcode i) op.FUNCTION h) refl
 
-begins : (insts : List Instruction) (k : ℕ) (i : Instruction) → slice_get insts k ≡ Some i → (declared_before insts (suc k)).begun ≡ ((declared_before insts k).begun || is_function i)
+begins : (insts : List Instruction) (k : ℕ) (i : Instruction) → slice_get insts k ≡ Some i →
+    (declared_before insts (suc k)).begun ≡ ((declared_before insts k).begun || is_function i)
 begins insts k i at = ap (λ (d : Declared). d.begun) (declared-more insts k i at)
 
 table_more : (insts : List Instruction) (k : ℕ) (i : Instruction) → slice_get insts k ≡ Some i →
-    table_before insts (suc k) ≡ cond (declared_before insts k).begun (table_before insts k) (with_entry (table_before insts k) (entry (says insts) (table_before insts k) i))
+    table_before insts (suc k) ≡ cond (declared_before insts k).begun (table_before insts k)
+    (with_entry (table_before insts k) (entry (says insts) (table_before insts k) i))
 table_more insts k i at = ap (λ (d : Declared). d.table) (declared-more insts k i at)
 
 -- one more, where no function had begun
-front_goes : (insts : List Instruction) (k : ℕ) (i : Instruction) (function : Bool) → slice_get insts k ≡ Some i → is_function i ≡ function → (declared_before insts k).begun ≡ false → Front insts (suc k)
+front_goes : (insts : List Instruction) (k : ℕ) (i : Instruction) (function : Bool) → slice_get insts k ≡ Some i → is_function i ≡ function →
+    (declared_before insts k).begun ≡ false → Front insts (suc k)
 front_goes insts k i true at h outside =
     record {
       m = k;
@@ -43,12 +46,14 @@ front_goes insts k i true at h outside =
       same = table_more insts k i at ∙ rw (outside, function_silent insts (table_before insts k) i h) refl;
       ends = inr (i, at, h, begins insts k i at ∙ rw (outside, h) refl);
     }
-front_goes insts k i false at h outside = record { m = suc k; less = omega arith; outside = begins insts k i at ∙ rw (outside, h) refl; same = refl; ends = inl refl }
+front_goes insts k i false at h outside =
+    record { m = suc k; less = omega arith; outside = begins insts k i at ∙ rw (outside, h) refl; same = refl; ends = inl refl }
 
 front_step : (insts : List Instruction) (k : ℕ) (found : Option Instruction) → slice_get insts k ≡ found → Front insts k → Front insts (suc k)
 front_step insts k None at f = past f.ends
   where
-    past : (f.m ≡ k) ⊎ ((i : Instruction) × (slice_get insts f.m ≡ Some i) × (is_function i ≡ true) × ((declared_before insts k).begun ≡ true)) → Front insts (suc k)
+    past : (f.m ≡ k) ⊎ ((i : Instruction) × (slice_get insts f.m ≡ Some i) × (is_function i ≡ true) × ((declared_before insts k).begun ≡ true)) →
+        Front insts (suc k)
     past (inl e) = record {
       m = suc k;
       less = omega arith;
@@ -65,7 +70,8 @@ front_step insts k None at f = past f.ends
     }
 front_step insts k (Some i) at f = goes f.ends
   where
-    goes : (f.m ≡ k) ⊎ ((i : Instruction) × (slice_get insts f.m ≡ Some i) × (is_function i ≡ true) × ((declared_before insts k).begun ≡ true)) → Front insts (suc k)
+    goes : (f.m ≡ k) ⊎ ((i : Instruction) × (slice_get insts f.m ≡ Some i) × (is_function i ≡ true) × ((declared_before insts k).begun ≡ true)) →
+        Front insts (suc k)
     goes (inl e) = front_goes insts k i (is_function i) at refl (subst (λ (n : ℕ). (declared_before insts n).begun ≡ false) e f.outside)
     goes (inr h) = record {
       m = f.m;
@@ -81,7 +87,8 @@ front_of insts zero = record { m = 0; less = omega arith; outside = refl; same =
 front_of insts (suc k) = front_step insts k (slice_get insts k) refl (front_of insts k)
 
 -- what is defined outside functions is defined in front of the first one; induction on the instructions
-outside_before : (insts : List Instruction) (m id : ℕ) (i : Instruction) → slice_get insts m ≡ Some i → is_function i ≡ true → is_outside insts id ≡ true → list_any (defines id) (take m insts) ≡ true
+outside_before : (insts : List Instruction) (m id : ℕ) (i : Instruction) → slice_get insts m ≡ Some i → is_function i ≡ true →
+    is_outside insts id ≡ true → list_any (defines id) (take m insts) ≡ true
 outside_before [] m id i at function h = cc
 outside_before (x ∷ xs) zero id i at function h =
     let same : x ≡ i = cc in
@@ -89,26 +96,33 @@ outside_before (x ∷ xs) zero id i at function h =
     cc
 outside_before (x ∷ xs) (suc m) id i at function h = by_first (is_function x) (defines id x) h (λ k. outside_before xs m id i at function k)
   where
-    by_first : (f d : Bool) → cond f false (cond d true (is_outside xs id)) ≡ true → (is_outside xs id ≡ true → list_any (defines id) (take m xs) ≡ true) → (d || list_any (defines id) (take m xs)) ≡ true
+    by_first : (f d : Bool) → cond f false (cond d true (is_outside xs id)) ≡ true →
+        (is_outside xs id ≡ true → list_any (defines id) (take m xs) ≡ true) → (d || list_any (defines id) (take m xs)) ≡ true
     by_first true d h k = cc
     by_first false true h k = refl
     by_first false false h k = k h
 
-pub before_front : (insts : List Instruction) (k id : ℕ) (f : Front insts k) → IsBefore insts k id → is_outside insts id ≡ true → IsBefore insts f.m id
+pub before_front : (insts : List Instruction) (k id : ℕ) (f : Front insts k) → IsBefore insts k id → is_outside insts id ≡ true →
+    IsBefore insts f.m id
 before_front insts k id f before h = by_end f.ends
   where
-    by_end : (f.m ≡ k) ⊎ ((i : Instruction) × (slice_get insts f.m ≡ Some i) × (is_function i ≡ true) × ((declared_before insts k).begun ≡ true)) → IsBefore insts f.m id
+    by_end : (f.m ≡ k) ⊎ ((i : Instruction) × (slice_get insts f.m ≡ Some i) × (is_function i ≡ true) × ((declared_before insts k).begun ≡ true)) →
+        IsBefore insts f.m id
     by_end (inl e) = subst (λ (n : ℕ). IsBefore insts n id) (sym e) before
     by_end (inr g) = outside_before insts f.m id g.0 g.1 g.2 h
 
 -- ---- types and constants that are defined outside functions, anywhere in the module
 
-pub sound_type-outside : (insts : List Instruction) → AreInstructions insts → (k t : ℕ) → Unbroken insts k → IsBefore insts k t → is_outside insts t ≡ true → IsSoundType insts (table_before insts k) t
+pub sound_type-outside : (insts : List Instruction) → AreInstructions insts → (k t : ℕ) → Unbroken insts k → IsBefore insts k t →
+    is_outside insts t ≡ true → IsSoundType insts (table_before insts k) t
 sound_type-outside insts whole k t clean before h =
     let f = front_of insts k in
-    subst (λ (table : Table). IsSoundType insts table t) (sym f.same) (sound_type insts whole f.m t (unbroken-less insts f.m k f.less clean) f.outside (before_front insts k t f before h))
+    subst (λ (table : Table). IsSoundType insts table t) (sym f.same)
+    (sound_type insts whole f.m t (unbroken-less insts f.m k f.less clean) f.outside (before_front insts k t f before h))
 
-pub sound_constant-outside : (insts : List Instruction) → AreInstructions insts → (k id : ℕ) → Unbroken insts k → IsBefore insts k id → is_outside insts id ≡ true → is_constant insts id ≡ true → IsSoundConstant insts (table_before insts k) id
+pub sound_constant-outside : (insts : List Instruction) → AreInstructions insts → (k id : ℕ) → Unbroken insts k → IsBefore insts k id →
+    is_outside insts id ≡ true → is_constant insts id ≡ true → IsSoundConstant insts (table_before insts k) id
 sound_constant-outside insts whole k id clean before h c =
     let f = front_of insts k in
-    subst (λ (table : Table). IsSoundConstant insts table id) (sym f.same) (sound_constant insts whole f.m id (unbroken-less insts f.m k f.less clean) f.outside (before_front insts k id f before h) c)
+    subst (λ (table : Table). IsSoundConstant insts table id) (sym f.same)
+    (sound_constant insts whole f.m id (unbroken-less insts f.m k f.less clean) f.outside (before_front insts k id f before h) c)

@@ -18,7 +18,8 @@ AreWordsOf P (b ∷ bs) [] = ⊥
 AreWordsOf P (b ∷ bs) (w ∷ ws) = IsWordOf P b w × AreWordsOf P bs ws
 
 -- induction on the places
-pub words-append : (P : ℕ → Type 0) (bs cs : List Bool) (ws vs : List ℕ) → AreWordsOf P bs ws → AreWordsOf P cs vs → AreWordsOf P (bs ++ cs) (ws ++ vs)
+pub words-append : (P : ℕ → Type 0) (bs cs : List Bool) (ws vs : List ℕ) → AreWordsOf P bs ws → AreWordsOf P cs vs →
+    AreWordsOf P (bs ++ cs) (ws ++ vs)
 words-append P [] cs [] vs h k = k
 words-append P [] cs (w ∷ ws) vs h k = absurd h
 words-append P (b ∷ bs) cs [] vs h k = absurd h
@@ -66,7 +67,8 @@ mutual
   pub length-member_booleans : (ms : Members) → length (member_booleans ms) ≡ member_cells ms
   length-member_booleans NoMember = refl
   length-member_booleans (Member offset volatile t rest) =
-      length-append (booleans t) (member_booleans rest) ∙ ap (λ (n : ℕ). n + length (member_booleans rest)) (length-booleans t) ∙ ap (λ (n : ℕ). cells t + n) (length-member_booleans rest)
+      length-append (booleans t) (member_booleans rest) ∙ ap (λ (n : ℕ). n + length (member_booleans rest)) (length-booleans t) ∙ ap
+      (λ (n : ℕ). cells t + n) (length-member_booleans rest)
 
 pub words-cells : (P : ℕ → Type 0) (t : DataType) (ws : List ℕ) → AreWordsOf P (booleans t) ws → length ws ≡ cells t
 words-cells P t ws h = words-length P (booleans t) ws h ∙ length-booleans t
