@@ -32,7 +32,7 @@ layout_fits d i =
 abbrev pub declaration_rules : List Instruction → Declared → (k : ℕ) → Instruction → List ℕ
 declaration_rules insts d k i =
     unless (type_fits insts i && not (occurs_before insts k i)) 303
-    ++ (unless (constant_fits insts d i) 304
+    ++ (unless (d.begun || constant_fits insts d i) 304
     ++ (unless (spec_op_fits insts i) 305
     ++ (unless (decoration_fits insts i && not (repeats_before insts k i)) 306
     ++ (unless (layout_fits d i) 307

@@ -6,6 +6,7 @@ pub mod facts;
 pub mod meaning;
 mod constants;
 mod meanings;
+mod rules;
 mod words;
 
 pub use facts::TypeFacts;
