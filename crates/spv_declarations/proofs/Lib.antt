@@ -10,3 +10,6 @@ pub mod Operations
 pub mod Declares
 pub mod Words
 pub mod SoundConstants
+pub mod SoundShapes
+pub mod Consequences
+pub mod PartWords

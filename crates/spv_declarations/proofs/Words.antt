@@ -31,7 +31,7 @@ words-length P [] (w ∷ ws) h = absurd h
 words-length P (b ∷ bs) [] h = absurd h
 words-length P (b ∷ bs) (w ∷ ws) h = ap suc (words-length P bs ws h.1)
 
-zero_word : (P : ℕ → Type 0) → P 0 → (b : Bool) → IsWordOf P b 0
+pub zero_word : (P : ℕ → Type 0) → P 0 → (b : Bool) → IsWordOf P b 0
 zero_word P p true = omega arith
 zero_word P p false = p
 
@@ -47,7 +47,7 @@ one-word P (w ∷ v ∷ ws) e p = absurd (omega (arith, e))
 
 -- ---- as many places as words
 
-length-copies : {X : Type 0} (n : ℕ) (xs : List X) → length (copies n xs) ≡ n * length xs
+pub length-copies : {X : Type 0} (n : ℕ) (xs : List X) → length (copies n xs) ≡ n * length xs
 length-copies zero xs = omega arith
 length-copies (suc n) xs = length-append xs (copies n xs) ∙ copied (length xs) n (length (copies n xs)) (length-copies n xs)
   where
