@@ -1,3 +1,7 @@
 pub mod Room
 pub mod Standing
 pub mod WordLemmas
+pub mod ConstantLemmas
+pub mod CompositeLemmas
+pub mod DeclarationLemmas
+pub mod OpcodeLemmas

@@ -1,3 +1,4 @@
 pub mod Facts
 pub mod Meanings
 pub mod Steps
+pub mod Declaring

@@ -1,6 +1,10 @@
 //! Types, constants and global variables of a module, and the rules on them.
 #![tactic(auto)]
 
+mod composites;
+mod computed_constant;
+mod constants;
+pub mod declared_constant;
 pub mod facts;
 pub mod meaning;
 mod meanings;
