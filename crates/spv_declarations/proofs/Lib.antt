@@ -18,3 +18,4 @@ pub mod OperationWords
 pub mod FittingWords
 pub mod Consequences
 pub mod Functions
+pub mod Whole
