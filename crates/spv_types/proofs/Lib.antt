@@ -14,3 +14,4 @@ pub mod CompositeLemmas
 pub mod DeclarationLemmas
 pub mod OpcodeLemmas
 pub mod Tests
+pub mod EarlyRules

@@ -19,8 +19,10 @@ pub failing-found : (tests : List (Bool × ℕ)) (k : ℕ) → ArePassed tests k
     Some (slice_index_or tests k (false, 0)).1 ≡ first_failing tests
 failing-found tests k passed below e = sym (passed ∙ at_test tests k false below e)
 
-pub failing-next : (tests : List (Bool × ℕ)) (k : ℕ) → ArePassed tests k → k < length tests → (slice_index_or tests k (false, 0)).0 ≡ true → ArePassed tests (suc k)
-failing-next tests k passed below e = passed ∙ at_test tests k true below e
+pub failing-next : (tests : List (Bool × ℕ)) (k : ℕ) → ArePassed tests k → k < length tests → (slice_index_or tests k (false, 0)).0 ≡ true → ArePassed tests (k + 1)
+failing-next tests k passed below e =
+    let same : suc k ≡ k + 1 = omega arith in
+    subst (ArePassed tests) same (passed ∙ at_test tests k true below e)
 
 pub failing-none : (tests : List (Bool × ℕ)) (k : ℕ) → ArePassed tests k → length tests ≤ k → None ≡ first_failing tests
 failing-none tests k passed past = sym (passed ∙ ap first_failing (drop_of_length-le tests past))
