@@ -19,3 +19,4 @@ pub mod FittingWords
 pub mod Consequences
 pub mod Functions
 pub mod Whole
+pub mod Modules

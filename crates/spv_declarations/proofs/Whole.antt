@@ -101,7 +101,7 @@ declare_all-split all d zero is = refl
 declare_all-split all d (suc k) [] = refl
 declare_all-split all d (suc k) (i ∷ is) = declare_all-split all (declare all d i) k is
 
-take_all : (is : List Instruction) → take (length is) is ≡ is
+pub take_all : (is : List Instruction) → take (length is) is ≡ is
 take_all [] = refl
 take_all (i ∷ is) = ap (λ (xs : List Instruction). i ∷ xs) (take_all is)
 
