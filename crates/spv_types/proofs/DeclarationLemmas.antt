@@ -103,7 +103,7 @@ rule_by insts d o words =
     cond (is_one_of (op.CONSTANT_TRUE ∷ op.CONSTANT_FALSE ∷ op.SPEC_CONSTANT_TRUE ∷ op.SPEC_CONSTANT_FALSE ∷ []) o) (is_bool insts t)
     (cond (is_one_of (op.CONSTANT ∷ op.SPEC_CONSTANT ∷ []) o) (is_int insts t && length (drop 3 words) == 1)
     (cond (o == op.CONSTANT_NULL) (is_closed insts t)
-    (cond (o == op.UNDEF) (d.begun || is_closed insts t)
+    (cond (o == op.UNDEF) (is_closed insts t)
     (cond (o == op.SPEC_CONSTANT_COMPOSITE) (composite_fits insts d t (drop 3 words))
     (cond (o == op.CONSTANT_COMPOSITE) (composite_fits insts d t (drop 3 words) && list_all (λ id. not (is_spec insts id)) (drop 3 words))
     true)))))

@@ -15,3 +15,4 @@ pub mod DeclarationLemmas
 pub mod OpcodeLemmas
 pub mod Tests
 pub mod EarlyRules
+pub mod Entries

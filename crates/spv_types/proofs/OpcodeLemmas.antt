@@ -160,16 +160,12 @@ null_by insts k i ks c ready listed has closed e =
     declares insts k i c (zeros (type_at table (slice_index (drop 1 i.words) 0))) e
     (subst (λ (t : ℕ). HasWords table (type_at table (slice_index i.words 1)) (zeros (type_at table t)) c) (sym (index-on i.words 0)) (has (type_known insts k i ready.next listed) closed))
 
-begun_none : (b c : Bool) → b ≡ false → (b || c) ≡ true → c ≡ true
-begun_none true c e h = cc
-begun_none false c e h = h
-
 pub null_declares : (insts : List Instruction) (k : ℕ) (i : Instruction) (ks : List (ℕ × Kept)) (c : Constant) → IsReady insts k i ks → IsListed i → (opcode i ≡ op.CONSTANT_NULL) ⊎ (opcode i ≡ op.UNDEF) →
     HasZeros insts k (slice_index i.words 1) c → DeclaresWords insts k i c
 null_declares insts k i ks c ready listed (inl is_o) has =
     null_by insts k i ks c ready listed has (rule_at insts k i op.CONSTANT_NULL ready.next is_o) (entry-by (says insts) (table_before insts k) i op.CONSTANT_NULL is_o refl)
 null_declares insts k i ks c ready listed (inr is_o) has =
-    null_by insts k i ks c ready listed has (begun_none (declared_before insts k).begun (is_closed insts (slice_index i.words 1)) ready.next.outside (rule_at insts k i op.UNDEF ready.next is_o))
+    null_by insts k i ks c ready listed has (rule_at insts k i op.UNDEF ready.next is_o)
     (entry-by (says insts) (table_before insts k) i op.UNDEF is_o refl)
 
 one_or_more : (o n : ℕ) (b : Bool) → o ≢ n → (nat_eq o n || b) ≡ true → b ≡ true

@@ -5,3 +5,4 @@ pub mod Steps
 pub mod Search
 pub mod Declaring
 pub mod Progress
+pub mod Entries

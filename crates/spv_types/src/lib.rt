@@ -7,6 +7,7 @@ mod constants;
 mod declared_constant;
 mod declared_type;
 pub mod facts;
+mod keeping;
 pub mod meaning;
 mod meanings;
 mod operands;
