@@ -16,3 +16,4 @@ pub mod OpcodeLemmas
 pub mod Tests
 pub mod EarlyRules
 pub mod Entries
+pub mod OneMore

@@ -6,3 +6,4 @@ pub mod Search
 pub mod Declaring
 pub mod Progress
 pub mod Entries
+pub mod Whole
