@@ -12,7 +12,7 @@ pub mod meaning;
 mod meanings;
 mod operands;
 mod rules;
-mod tables;
+mod module_tables;
 mod words;
 
 pub use facts::TypeFacts;
