@@ -5,3 +5,4 @@ pub mod ConstantLemmas
 pub mod CompositeLemmas
 pub mod DeclarationLemmas
 pub mod OpcodeLemmas
+pub mod SuitLemmas

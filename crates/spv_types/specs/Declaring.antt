@@ -85,3 +85,8 @@ pub record DeclaresWords (insts : List Instruction) (k : ℕ) (i : Instruction) 
   pub words : List ℕ
   pub stands : entry (says insts) (table_before insts k) i ≡ Some (slice_index i.words 2, IsConstant type words)
   pub has : HasWords (table_before insts k) type words c
+
+-- scalars and vectors
+abbrev pub AreSmall : Table → (ids : List ℕ) → Type 0
+AreSmall table [] = Unit {0}
+AreSmall table (id ∷ ids) = (is_small (typed_at table id).type ≡ true) × AreSmall table ids

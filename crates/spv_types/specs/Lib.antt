@@ -2,3 +2,4 @@ pub mod Facts
 pub mod Meanings
 pub mod Steps
 pub mod Declaring
+pub mod Suits

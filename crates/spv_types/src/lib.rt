@@ -5,6 +5,7 @@ mod composites;
 mod computed_constant;
 mod constants;
 pub mod declared_constant;
+mod evaluation;
 pub mod facts;
 pub mod meaning;
 mod meanings;
