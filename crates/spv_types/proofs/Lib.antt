@@ -6,3 +6,5 @@ pub mod CompositeLemmas
 pub mod DeclarationLemmas
 pub mod OpcodeLemmas
 pub mod SuitLemmas
+pub mod OperandLemmas
+pub mod FormLemmas

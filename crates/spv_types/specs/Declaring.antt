@@ -1,7 +1,8 @@
 -- What is known in front of a constant's declaration, and what is kept of the constant.
-use Rattle.std.specs.Prelude.{◌≡◌, ℕ, ◌<◌, Bool, true, false, List, [], ◌∷◌, ◌++◌, length, nat_eq, slice_index, Option, Some, None}
+use Rattle.std.specs.Prelude.{◌≡◌, ℕ, ◌<◌, ◌==◌, ◌&&◌, Bool, true, false, List, [], ◌∷◌, ◌++◌, length, nat_eq, slice_index, Option, Some, None}
 use Rattle.std.specs.Map.{lookup}
-use Rattle.spv_module.specs.Instruction.{Instruction}
+use Rattle.spv_opcodes.specs.declared.op.TheConstants as op
+use Rattle.spv_module.specs.Instruction.{Instruction, opcode}
 use Rattle.spv_value.specs.Eval.{AreBooleanWords}
 use Rattle.spv_meaning.specs.Constants.{Table, Meaning, IsConstant, meaning, words_at, typed_at}
 use Rattle.spv_meaning.specs.Types.{DataType}
@@ -29,9 +30,14 @@ pub record AreSound (insts : List Instruction) (k : ℕ) : Type 0 where
   pub booleans : (id : ℕ) (s : Shape) → IsBefore insts k id → is_constant insts id ≡ true → shape insts (type_of insts id) ≡ Some s → s.is_boolean ≡ true →
     AreBooleanWords (words_at (table_before insts k) id)
 
--- the k-th declares a constant, and so much stands for what those before it declared
+-- an OpSpecConstantOp of OpCompositeExtract
+abbrev pub is_extraction : Instruction → Bool
+is_extraction i = opcode i == op.SPEC_CONSTANT_OP && slice_index i.words 3 == op.COMPOSITE_EXTRACT
+
+-- the k-th declares a constant, but not by an extraction, and so much stands for what those before it declared
 pub record IsReady (insts : List Instruction) (k : ℕ) (i : Instruction) (entries : List (ℕ × Kept)) : Type 0 where
   pub next : IsNext insts k i
+  pub plain : is_extraction i ≡ false
   pub only : OnlyConstants (declared_before insts k)
   pub sound : AreSound insts k
   pub stand : StandFor (declared_before insts k).table (declared_before insts k).specialised entries

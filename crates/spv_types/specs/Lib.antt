@@ -3,3 +3,4 @@ pub mod Meanings
 pub mod Steps
 pub mod Declaring
 pub mod Suits
+pub mod Computing

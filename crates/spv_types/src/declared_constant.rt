@@ -1,5 +1,5 @@
 // What is kept of constants that are declared.
-ghost use Rattle.std.specs.Prelude.{◌≡◌, ℕ, ◌≤◌, ◌&&◌, true, List, IfOk, replicate};
+ghost use Rattle.std.specs.Prelude.{◌≡◌, ℕ, ◌≤◌, ◌&&◌, true, false, List, IfOk, replicate};
 ghost use Rattle.std.specs.List.{list_any, zip};
 ghost use Rattle.spv_grammar.specs.Roles.{is_used_id};
 ghost use Rattle.spv_module.specs.Instruction.{Instruction, opcode as opcode_in};
@@ -12,7 +12,7 @@ ghost use Rattle.spv_ids.specs.Ids.{words_with};
 ghost use Rattle.spv_declarations.specs.Sound.{IsBefore, table_before};
 ghost use Rattle.spv_types.specs.Meanings.{StandFor};
 ghost use Rattle.spv_types.specs.Steps.{IsNext, KeepsConstant, constant_opcodes};
-ghost use Rattle.spv_types.specs.Declaring.{OnlyConstants, AreSound, IsReady, HasWords, DeclaresWords, flag_at};
+ghost use Rattle.spv_types.specs.Declaring.{is_extraction, OnlyConstants, AreSound, IsReady, HasWords, DeclaresWords, flag_at};
 
 use crate::composites::{composite, small};
 use crate::computed_constant::computed_constant;
@@ -113,7 +113,7 @@ pub fn declared_constant(
     inst: &View,
 ) -> Result<Constant, NoMemory>
     requires same { decorations.now ≡ kinds.now }
-    ensures { IfOk result (λ c. (k : ℕ) → IsNext kinds.now k (seen inst.now) → is_one_of constant_opcodes (opcode_in (seen inst.now)) ≡ true → OnlyConstants (declared_before kinds.now k) → AreSound kinds.now k → StandFor (declared_before kinds.now k).table (declared_before kinds.now k).specialised meanings.now.entries → KeepsConstant kinds.now (declared_before kinds.now k) (seen inst.now) c) }
+    ensures { IfOk result (λ c. (k : ℕ) → IsNext kinds.now k (seen inst.now) → is_one_of constant_opcodes (opcode_in (seen inst.now)) ≡ true → is_extraction (seen inst.now) ≡ false → OnlyConstants (declared_before kinds.now k) → AreSound kinds.now k → StandFor (declared_before kinds.now k).table (declared_before kinds.now k).specialised meanings.now.entries → KeepsConstant kinds.now (declared_before kinds.now k) (seen inst.now) c) }
 {
     let is_specialised = is_specialised(decorations, meanings, inst);
     with_words(alloc, kinds, meanings, inst, is_specialised)
