@@ -1,9 +1,7 @@
 -- What is kept of a constant, by its id.
-use Rattle.std.proofs.Common.{◌≡◌, ℕ, zero, suc, ◌+◌, ◌<◌, ◌≤◌, Bool, true, false, cond, nat_eq, List, [], ◌∷◌, ◌++◌, length, slice_get, position, Option, Some, None, refl, sym, ap, subst, ◌∙◌, arith}
+use Rattle.std.proofs.Common.{◌≡◌, ℕ, suc, ◌<◌, Bool, true, false, cond, nat_eq, List, [], ◌∷◌, length, slice_get, position, Option, Some, None, refl, sym, ap, subst, ◌∙◌, arith}
 use Rattle.std.specs.Option.{IfSome, IfNone, option_map}
 use Rattle.std.specs.Map.{lookup, keys_of}
-use Rattle.std.proofs.lemmas.Bool.Decides.{nat_tests}
-use Rattle.std.proofs.lemmas.Option.{none-some}
 use Rattle.spv_value.specs.declared.words.Operand.{Operand}
 use Rattle.spv_value.specs.Words.{words_of}
 use Rattle.spv_meaning.specs.Constants.{Table, Meaning, IsType, IsPointer, IsConstant, IsVariable, meaning, words_in, words_at, typed_in, typed_at}
@@ -17,7 +15,7 @@ use Rattle.spv_types.specs.declared.meaning.Kept.TheVariants as kept
 use Rattle.spv_types.specs.declared.meaning.Value.{Value}
 use Rattle.spv_types.specs.declared.meaning.Value.TheVariants.{Small, Zeros, Parts}
 use Rattle.spv_types.specs.Facts.{in_64_bits}
-use Rattle.spv_types.specs.Meanings.{IsValue, StandsFor, StandFrom, StandFor, words_numbered, words_in_entry, constant_of_kept, cells_of_constant, is_small}
+use Rattle.spv_types.specs.Meanings.{IsValue, StandFrom, StandFor, words_in_entry, constant_of_kept, cells_of_constant, is_small}
 use Rattle.spv_types.specs.Declaring.{OnlyConstants, flag_of, IsNumber, IsOperandIn, IsOperandOf}
 use Rattle.spv_types.proofs.Standing.{AreAlike, StandFrom-lookup}
 

@@ -1,5 +1,5 @@
 -- What OpSpecConstantOp computes, by the form of its operation.
-use Rattle.std.proofs.Common.{◌≡◌, ℕ, zero, suc, ◌+◌, ◌*◌, ◌<◌, ◌≤◌, Bool, true, false, cond, not, ◌==◌, ◌&&◌, ◌||◌, nat_lt, List, [], ◌∷◌, ◌++◌, length, map, take, drop, slice_index, slice_get, slice_set, Option, Some, None, ◌⊎◌, inl, inr, refl, sym, ap, subst, ◌∙◌, arith}
+use Rattle.std.proofs.Common.{◌≡◌, ℕ, ◌*◌, ◌<◌, ◌≤◌, Bool, true, false, cond, ◌==◌, ◌&&◌, ◌||◌, nat_lt, List, [], ◌∷◌, length, map, drop, slice_index, Option, Some, None, ◌⊎◌, inl, inr, refl, sym, ap, subst, ◌∙◌, arith}
 use Rattle.std.specs.List.{list_all}
 use Rattle.std.specs.Option.{is_some}
 use Rattle.std.proofs.lemmas.Bool.{eqb-true, and_parts, and_from, or_cases, ltb-true, false≢true}
@@ -8,16 +8,14 @@ use Rattle.spv_module.specs.Instruction.{Instruction, opcode}
 use Rattle.spv_value.specs.declared.words.Operand.{Operand}
 use Rattle.spv_value.specs.Words.{words_of}
 use Rattle.spv_value.specs.Eval.{Eval}
-use Rattle.spv_meaning.specs.Computations as computes
-use Rattle.spv_meaning.specs.Computations.{Typed, computed, shuffled, inserted, whole_part}
-use Rattle.spv_meaning.specs.Constants.{Table, Meaning, IsType, IsConstant, meaning, type_in, type_at, typed_at, words_at}
+use Rattle.spv_meaning.specs.Computations.{computed, inserted, whole_part}
+use Rattle.spv_meaning.specs.Constants.{Table, Meaning, IsConstant, meaning, type_in, type_at, typed_at}
 use Rattle.spv_meaning.specs.Parts.{packed_part}
-use Rattle.spv_meaning.specs.Types.{DataType, Boolean, Integer, Vector, cells}
+use Rattle.spv_meaning.specs.Types.{DataType, Vector, cells}
 use Rattle.spv_ids.specs.Ids.{is_defined_before}
 use Rattle.spv_typing.specs.declared.operations.Form.{Form}
 use Rattle.spv_typing.specs.declared.operations.Form.TheVariants.{Ints, Bools, Compares, Selects, Shuffles, Extracts, Inserts}
-use Rattle.spv_typing.specs.declared.shapes.Shape.{Shape}
-use Rattle.spv_typing.specs.Kinds.{is_one_of, is_bool, is_int, is_vector, is_array, is_struct, is_constant, type_of, has_type, component, component_count, members, element}
+use Rattle.spv_typing.specs.Kinds.{is_one_of, is_bool, is_int, is_vector, is_array, is_struct, is_constant, type_of, has_type, component, component_count}
 use Rattle.spv_typing.specs.Operations.{spec_operations, form_of, shape, operands_fit, is_vector_of, all_pick, components_of, literals_lead, part_at, part_along, part_behind, leads_to}
 use Rattle.spv_declarations.specs.Declarations.{says, entry}
 use Rattle.spv_declarations.specs.Sound.{IsBefore, table_before, IsSoundType}
@@ -30,11 +28,11 @@ use Rattle.spv_types.specs.Meanings.{is_small, words_in_entry}
 use Rattle.spv_types.specs.Steps.{constant_opcodes}
 use Rattle.spv_types.specs.Declaring.{is_extraction, IsReady, AreSmall}
 use Rattle.spv_types.specs.Computing.{computed_by, ids_by, IsShuffled, IsInserted}
-use Rattle.spv_types.proofs.CompositeLemmas.{typed_words, sound_typed, sound_words, next_sound, vector_of_scalars, vector_small, scalar_unit, IsUnit}
+use Rattle.spv_types.proofs.CompositeLemmas.{typed_words, sound_typed, sound_words, next_sound, vector_of_scalars, vector_small, scalar_unit}
 use Rattle.spv_types.proofs.DeclarationLemmas.{all_known, type_known}
 use Rattle.spv_types.proofs.OpcodeLemmas.{shape_small}
 use Rattle.spv_types.proofs.SuitLemmas.{each_operation, short_opcode}
-use Rattle.spv_types.proofs.OperandLemmas.{words_all, AreSuited, ints_suited, bools_suited, compares_suited, selects_suited, some_shape}
+use Rattle.spv_types.proofs.OperandLemmas.{words_all, ints_suited, bools_suited, compares_suited, selects_suited, some_shape}
 
 -- the words are what the form computes
 abbrev pub Computes : List Instruction → (k o t : ℕ) → List ℕ → Operand → Form → Type 0
@@ -107,6 +105,7 @@ small_no_struct insts table t sound small = (by_struct (is_struct insts t) refl,
     by_struct : (b : Bool) → is_struct insts t ≡ b → b ≡ false
     by_struct true e = let no : true ≡ false = sym small ∙ ap (λ m. is_small (type_in m)) (sound.struct e) in sym (sym no)
     by_struct false e = refl
+
     by_array : (b : Bool) → is_array insts t ≡ b → b ≡ false
     by_array true e = let no : true ≡ false = sym small ∙ ap (λ m. is_small (type_in m)) (sound.array e).1 in sym (sym no)
     by_array false e = refl
@@ -200,7 +199,7 @@ inserts_compute insts k i ks ready n t (o ∷ c ∷ j ∷ []) x before e fits kn
     let object : type_at table (type_of insts o) ≡ part = ap (type_at table) (sym led.part) in
     let type : (typed_at table c).type ≡ Vector (component_count insts t) part = sound_typed insts table c hc ∙ named ∙ vector in
     let sized : length (typed_at table c).words ≡ component_count insts t =
-      ap length (typed_words (meaning table c)) ∙ sound_words insts table c hc ∙ ap cells (named ∙ vector) ∙ times_one (component_count insts t) (cells part) unit.single in
+    ap length (typed_words (meaning table c)) ∙ sound_words insts table c hc ∙ ap cells (named ∙ vector) ∙ times_one (component_count insts t) (cells part) unit.single in
     let single : length (typed_at table o).words ≡ 1 = ap length (typed_words (meaning table o)) ∙ sound_words insts table o ho ∙ ap cells object ∙ unit.single in
     let o_small = ap is_small (sound_typed insts table o ho ∙ object) ∙ unit.small in
     let c_small = ap is_small (sound_typed insts table c hc ∙ named) ∙ small in

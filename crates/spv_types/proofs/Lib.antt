@@ -8,3 +8,4 @@ pub mod OpcodeLemmas
 pub mod SuitLemmas
 pub mod OperandLemmas
 pub mod FormLemmas
+pub mod Walking

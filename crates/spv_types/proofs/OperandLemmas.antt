@@ -1,29 +1,27 @@
 -- The operands of OpSpecConstantOp are constants of words that suit its operation.
-use Rattle.std.proofs.Common.{◌≡◌, ℕ, zero, suc, ◌+◌, ◌<◌, ◌≤◌, Bool, true, false, cond, not, ◌==◌, ◌&&◌, ◌||◌, nat_lt, List, [], ◌∷◌, ◌++◌, length, map, take, drop, slice_index, Option, Some, None, ◌⊎◌, inl, inr, refl, sym, ap, subst, ◌∙◌, arith}
+use Rattle.std.proofs.Common.{◌≡◌, ℕ, zero, suc, ◌≤◌, Bool, true, false, not, ◌==◌, ◌&&◌, ◌||◌, List, [], ◌∷◌, length, map, Option, Some, None, ◌⊎◌, inl, inr, refl, sym, ap, subst, ◌∙◌, arith}
 use Rattle.std.specs.List.{list_all, All}
 use Rattle.std.specs.Option.{is_some}
 use Rattle.std.proofs.lemmas.List.{length-map}
 use Rattle.std.proofs.lemmas.Bool.{eqb-true, and_parts, or_cases}
 use Rattle.std.proofs.lemmas.Bool.Decides.{nat_tests}
 use Rattle.spv_module.specs.Instruction.{Instruction}
-use Rattle.spv_value.specs.Eval.{operand, AreBooleanWords, Eval}
-use Rattle.spv_meaning.specs.Computations.{Typed, computed}
-use Rattle.spv_meaning.specs.Constants.{Table, Meaning, meaning, type_at, typed_at, typed_in, words_in, words_at}
-use Rattle.spv_meaning.specs.Types.{DataType, cells}
+use Rattle.spv_value.specs.Eval.{AreBooleanWords}
+use Rattle.spv_meaning.specs.Computations.{Typed}
+use Rattle.spv_meaning.specs.Constants.{Table, meaning, typed_at}
 use Rattle.spv_ids.specs.Ids.{is_defined_before}
 use Rattle.spv_typing.specs.declared.operations.Form.{Form}
-use Rattle.spv_typing.specs.declared.operations.Form.TheVariants.{Ints, Bools, Compares, Selects, Shuffles, Extracts, Inserts}
+use Rattle.spv_typing.specs.declared.operations.Form.TheVariants.{Ints, Bools, Compares, Selects}
 use Rattle.spv_typing.specs.declared.shapes.Shape.{Shape}
 use Rattle.spv_typing.specs.Kinds.{is_constant, type_of, has_type}
 use Rattle.spv_typing.specs.Operations.{shape, has_shape, count_of, all_shaped, components_fit, condition_fits, operands_fit}
 use Rattle.spv_declarations.specs.Sound.{IsBefore, table_before}
 use Rattle.spv_declarations.proofs.Consequences.{type_before}
 use Rattle.spv_declarations.proofs.SoundShapes.{sound_shape}
-use Rattle.spv_folding.specs.Folding.{AreOperands, AreComponents, AreConditions, AreChoices}
+use Rattle.spv_folding.specs.Folding.{AreOperands, AreComponents}
 use Rattle.spv_types.specs.declared.meaning.Kept.{Kept}
 use Rattle.spv_types.specs.Meanings.{is_small}
 use Rattle.spv_types.specs.Declaring.{IsReady, AreSmall}
-use Rattle.spv_types.specs.Computing.{computed_by}
 use Rattle.spv_types.proofs.CompositeLemmas.{typed_words, sound_typed, sound_words, next_sound}
 use Rattle.spv_types.proofs.OpcodeLemmas.{shape_small}
 
@@ -180,9 +178,11 @@ value_shaped insts k i ks ready t id s e known typed =
   where
     same_count : (n : ℕ) → (n == n) ≡ true
     same_count n = grind (arith, nat_tests)
+
     by_kind : (b : Bool) (n : ℕ) → has_shape b n (Some (record { is_boolean = b; count = n })) ≡ true
     by_kind true n = same_count n
     by_kind false n = same_count n
+
     itself : (s : Shape) (o : Option Shape) → o ≡ Some s → has_shape s.is_boolean s.count o ≡ true
     itself s o e = ap (has_shape s.is_boolean s.count) e ∙ by_kind s.is_boolean s.count
 
@@ -228,12 +228,15 @@ selects_suited insts k i ks ready t (c ∷ a ∷ b ∷ []) before known h =
     either : {A B C D : Type 0} → (A → B) → (C → D) → A ⊎ C → B ⊎ D
     either f g (inl a) = inl (f a)
     either f g (inr b) = inr (g b)
+
     condition_small : (table : Table) (n : ℕ) → IsShaped table true 1 c ⊎ IsShaped table true n c → is_small (typed_at table c).type ≡ true
     condition_small table n (inl x) = x.small
     condition_small table n (inr x) = x.small
+
     condition_boolean : (table : Table) (n : ℕ) → IsShaped table true 1 c ⊎ IsShaped table true n c → AreBooleanWords (typed_at table c).words
     condition_boolean table n (inl x) = x.booleans refl
     condition_boolean table n (inr x) = x.booleans refl
+
     condition_sized : (table : Table) (n m : ℕ) → n ≡ m → IsShaped table true 1 c ⊎ IsShaped table true n c → (length (typed_at table c).words ≡ 1) ⊎ (length (typed_at table c).words ≡ m)
     condition_sized table n m e (inl x) = inl x.sized
     condition_sized table n m e (inr x) = inr (x.sized ∙ e)

@@ -1,18 +1,18 @@
 -- Operands that suit an operation of a form.
-use Rattle.std.proofs.Common.{◌≡◌, ℕ, zero, suc, ◌+◌, ◌<◌, ◌≤◌, Bool, true, false, cond, not, ◌==◌, ◌&&◌, ◌||◌, nat_eq, nat_le, nat_lt, List, [], ◌∷◌, ◌++◌, length, map, Option, Some, None, ◌⊎◌, inl, inr, refl, sym, ap, subst, ◌∙◌, arith}
+use Rattle.std.proofs.Common.{◌≡◌, ℕ, zero, suc, ◌≤◌, Bool, true, false, cond, ◌==◌, ◌&&◌, ◌||◌, nat_eq, nat_le, nat_lt, List, [], ◌∷◌, length, Some, ◌⊎◌, inl, inr, refl, sym, ap, subst, ◌∙◌, arith}
 use Rattle.std.specs.List.{list_all, All}
 use Rattle.std.specs.Map.{lookup}
 use Rattle.std.proofs.lemmas.List.{length-map}
-use Rattle.std.proofs.lemmas.Bool.{eqb-true, eq-eqb, and_parts, and_from, or_cases, or_left, or_right, leb-true, lt-ltb}
+use Rattle.std.proofs.lemmas.Bool.{eqb-true, eq-eqb, and_parts, and_from, or_cases, or_left, or_right, leb-true}
 use Rattle.std.proofs.lemmas.Bool.Decides.{nat_tests}
 use Rattle.spv_value.specs.declared.words.Operand.{Operand}
 use Rattle.spv_value.specs.Words.{padded, words_of, operands}
-use Rattle.spv_value.specs.Eval.{operand, AreBooleanWords}
+use Rattle.spv_value.specs.Eval.{AreBooleanWords}
 use Rattle.spv_value.proofs.WordLists.{length-words_of}
 use Rattle.spv_typing.specs.declared.operations.Form.{Form}
 use Rattle.spv_typing.specs.declared.operations.Form.TheVariants.{Ints, Bools, Compares, Selects, Shuffles, Extracts, Inserts}
 use Rattle.spv_typing.specs.Operations.{spec_operations}
-use Rattle.spv_folding.specs.Folding.{AreOperands, AreComponents, AreConditions, AreChoices}
+use Rattle.spv_folding.specs.Folding.{AreOperands, AreComponents, AreChoices}
 use Rattle.spv_types.specs.Suits.{first_len, are_components, is_boolean, are_choices, operands_suit}
 
 -- ---- words of booleans
@@ -89,9 +89,11 @@ choices_of c a b h =
     either : ((c.len == 1) ≡ true) ⊎ ((c.len == a.len) ≡ true) → (c.len ≡ 1) ⊎ (c.len ≡ a.len)
     either (inl e) = inl (eqb-true c.len 1 e)
     either (inr e) = inr (eqb-true c.len a.len e)
+
     words_too : (c.len ≡ 1) ⊎ (c.len ≡ a.len) → (length (words_of c) ≡ 1) ⊎ (length (words_of c) ≡ a.len)
     words_too (inl e) = inl (length-words_of c ∙ e)
     words_too (inr e) = inr (length-words_of c ∙ e)
+
     short : a.len ≤ 4 → (c.len ≡ 1) ⊎ (c.len ≡ a.len) → c.len ≤ 4
     short few (inl e) = omega arith
     short few (inr e) = omega arith
@@ -150,6 +152,7 @@ choices_pass n c a b h =
     condition : a.len ≡ n → (length (words_of c) ≡ 1) ⊎ (length (words_of c) ≡ n) → (c.len == 1 || c.len == a.len) ≡ true
     condition first (inl e) = or_left (c.len == 1) (c.len == a.len) (eq-eqb c.len 1 (sym (length-words_of c) ∙ e))
     condition first (inr e) = or_right (c.len == 1) (c.len == a.len) (eq-eqb c.len a.len (sym (length-words_of c) ∙ e ∙ sym first))
+
     short : n ≤ 4 → (length (words_of c) ≡ 1) ⊎ (length (words_of c) ≡ n) → c.len ≤ 4
     short few (inl e) = omega (arith, length-words_of c)
     short few (inr e) = omega (arith, length-words_of c)

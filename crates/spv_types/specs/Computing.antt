@@ -1,5 +1,5 @@
 -- What OpSpecConstantOp makes of the words behind the opcode of its operation.
-use Rattle.std.specs.Prelude.{◌≡◌, ℕ, ◌≤◌, true, List, [], ◌∷◌, ◌++◌, length, map, take, drop, slice_index, slice_set}
+use Rattle.std.specs.Prelude.{◌≡◌, ℕ, ◌≤◌, List, [], ◌∷◌, ◌++◌, length, map, take, drop, slice_index, slice_set}
 use Rattle.spv_value.specs.declared.words.Operand.{Operand}
 use Rattle.spv_value.specs.Words.{words_of}
 use Rattle.spv_meaning.specs.Computations as computes
@@ -7,7 +7,7 @@ use Rattle.spv_meaning.specs.Computations.{Computation, computed, shuffled}
 use Rattle.spv_meaning.specs.Constants.{Table, typed_at}
 use Rattle.spv_meaning.specs.Types.{DataType}
 use Rattle.spv_typing.specs.declared.operations.Form.{Form}
-use Rattle.spv_typing.specs.declared.operations.Form.TheVariants.{Ints, Bools, Compares, Selects, Shuffles, Extracts, Inserts}
+use Rattle.spv_typing.specs.declared.operations.Form.TheVariants.{Shuffles, Extracts, Inserts}
 use Rattle.spv_types.specs.Declaring.{AreSmall}
 
 -- what an operation of the form computes, and of which of the words as ids

@@ -4,7 +4,7 @@ use Rattle.std.specs.Map.{lookup}
 use Rattle.spv_opcodes.specs.declared.op.TheConstants as op
 use Rattle.spv_module.specs.Instruction.{Instruction, opcode}
 use Rattle.spv_value.specs.Eval.{AreBooleanWords}
-use Rattle.spv_meaning.specs.Constants.{Table, Meaning, IsConstant, meaning, words_at, typed_at}
+use Rattle.spv_meaning.specs.Constants.{Table, IsConstant, meaning, words_at, typed_at}
 use Rattle.spv_meaning.specs.Types.{DataType}
 use Rattle.spv_typing.specs.declared.shapes.Shape.{Shape}
 use Rattle.spv_typing.specs.Kinds.{is_one_of, is_constant, type_of}
@@ -28,7 +28,7 @@ pub record OnlyConstants (d : Declared) : Type 0 where
 pub record AreSound (insts : List Instruction) (k : ℕ) : Type 0 where
   pub constants : (id : ℕ) → IsBefore insts k id → is_constant insts id ≡ true → IsSoundConstant insts (table_before insts k) id
   pub booleans : (id : ℕ) (s : Shape) → IsBefore insts k id → is_constant insts id ≡ true → shape insts (type_of insts id) ≡ Some s → s.is_boolean ≡ true →
-    AreBooleanWords (words_at (table_before insts k) id)
+      AreBooleanWords (words_at (table_before insts k) id)
 
 -- an OpSpecConstantOp of OpCompositeExtract
 abbrev pub is_extraction : Instruction → Bool

@@ -1,5 +1,5 @@
 -- Whether operands suit an operation that is evaluated component by component.
-use Rattle.std.specs.Prelude.{ℕ, Bool, true, false, ◌==◌, ◌&&◌, ◌||◌, nat_le, nat_lt, List, [], ◌∷◌, length}
+use Rattle.std.specs.Prelude.{ℕ, Bool, false, ◌==◌, ◌&&◌, ◌||◌, nat_le, nat_lt, List, [], ◌∷◌, length}
 use Rattle.std.specs.List.{list_all}
 use Rattle.spv_value.specs.declared.words.Operand.{Operand}
 use Rattle.spv_typing.specs.declared.operations.Form.{Form}

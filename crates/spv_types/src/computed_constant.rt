@@ -35,7 +35,11 @@ fn shuffled(meanings: &Meanings, operands: &[u32]) -> Operand
             if literals.len() > 4 {
                 return zeros(0);
             }
-            shuffle(&operand_of(meanings, *first), &operand_of(meanings, *second), literals)
+            shuffle(
+                &operand_of(meanings, *first),
+                &operand_of(meanings, *second),
+                literals,
+            )
         }
         _ => zeros(0),
     }
@@ -58,7 +62,11 @@ fn inserted(meanings: &Meanings, operands: &[u32]) -> Operand
             if !is_short(&vector) {
                 return zeros(0);
             }
-            with_component(&vector, *literal as usize, component(&operand_of(meanings, *object), 0))
+            with_component(
+                &vector,
+                *literal as usize,
+                component(&operand_of(meanings, *object), 0),
+            )
         }
         _ => zeros(0),
     }
@@ -101,7 +109,14 @@ pub fn computed_constant(kinds: &Kinds, meanings: &Meanings, inst: &View) -> Ope
     };
     match form_of(u32::from(opcode)) {
         Some(form) => {
-            by_form(kinds, meanings, form, opcode, word(inst, 1), words_from(inst, 4))
+            by_form(
+                kinds,
+                meanings,
+                form,
+                opcode,
+                word(inst, 1),
+                words_from(inst, 4),
+            )
         }
         None => zeros(0),
     }

@@ -66,10 +66,12 @@ fn operand_in(constant: Option<&Constant>) -> Operand
     ensures { IsOperandOf (option_copied constant.entry) result }
 {
     match constant {
-        Some(Constant {
-            value: Value::Small(operand),
-            ..
-        }) => *operand,
+        Some(
+            Constant {
+                value: Value::Small(operand),
+                ..
+            },
+        ) => *operand,
         _ => zeros(0),
     }
 }

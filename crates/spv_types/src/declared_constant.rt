@@ -97,7 +97,14 @@ fn with_words(
         op::CONSTANT_FALSE | op::SPEC_CONSTANT_FALSE => Ok(small(is_specialised, of_word(0))),
         op::CONSTANT | op::SPEC_CONSTANT => Ok(small(is_specialised, of_word(word(inst, 3)))),
         op::CONSTANT_COMPOSITE | op::SPEC_CONSTANT_COMPOSITE => {
-            composite(alloc, kinds, meanings, t, words_from(inst, 3), is_specialised)
+            composite(
+                alloc,
+                kinds,
+                meanings,
+                t,
+                words_from(inst, 3),
+                is_specialised,
+            )
         }
         op::SPEC_CONSTANT_OP => Ok(small(is_specialised, computed_constant(kinds, meanings, inst))),
         _ => Ok(null(kinds, meanings, t, is_specialised)),

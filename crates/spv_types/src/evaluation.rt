@@ -117,12 +117,20 @@ pub fn evaluated(meanings: &Meanings, form: Form, opcode: u16, ids: &[u32]) -> O
     match ids {
         [a] => evaluate_suited(form, opcode, &[operand_of(meanings, *a)]),
         [a, b] => {
-            evaluate_suited(form, opcode, &[operand_of(meanings, *a), operand_of(meanings, *b)])
+            evaluate_suited(
+                form,
+                opcode,
+                &[operand_of(meanings, *a), operand_of(meanings, *b)],
+            )
         }
         [a, b, c] => evaluate_suited(
             form,
             opcode,
-            &[operand_of(meanings, *a), operand_of(meanings, *b), operand_of(meanings, *c)],
+            &[
+                operand_of(meanings, *a),
+                operand_of(meanings, *b),
+                operand_of(meanings, *c),
+            ],
         ),
         _ => zeros(0),
     }

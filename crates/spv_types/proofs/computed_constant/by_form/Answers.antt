@@ -1,5 +1,4 @@
-use Rattle.std.proofs.Common.{◌∙◌, sym}
-use Rattle.spv_typing.specs.declared.operations.Form.TheVariants.{Ints, Bools, Compares, Selects, Shuffles, Extracts, Inserts}
+use Rattle.spv_typing.specs.declared.operations.Form.TheVariants.{Ints, Bools, Compares, Selects, Shuffles, Inserts}
 use Rattle.spv_types.proofs.FormLemmas.{computes_by, evaluated_as, ints_compute, bools_compute, compares_compute, selects_compute, shuffles_compute, inserts_compute}
 use Rattle.spv_types.proofs.computed_constant.by_form.Goals as goal
 

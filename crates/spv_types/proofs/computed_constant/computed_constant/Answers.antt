@@ -15,4 +15,4 @@ returns-in-Some c = λ k t words ready is_o e.
     operation_words c.args.kinds.now k (seen c.args.inst.now) c.args.meanings.now.entries ready is_o t words e c.in-Some.form c.by_form.result c.in-Ok.opcode c.word-in-Some.result c.words_from.result.now is
     (c.in-Ok.ensures.1 ∙ c.word.ensures) c.word-in-Some.ensures c.words_from.ensures
     (λ before fits known. c.by_form.ensures k (seen c.args.inst.now) ready before fits known
-      (no_extraction (seen c.args.inst.now) c.in-Ok.opcode c.in-Some.form is (c.in-Ok.ensures.1 ∙ c.word.ensures) is_o ready.plain))
+    (no_extraction (seen c.args.inst.now) c.in-Ok.opcode c.in-Some.form is (c.in-Ok.ensures.1 ∙ c.word.ensures) is_o ready.plain))
