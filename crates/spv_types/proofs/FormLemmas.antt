@@ -119,7 +119,7 @@ scalar_no_vector insts table t sound h = by (is_vector insts t) refl (or_cases (
     by false e h = refl
 
 -- nothing is a part of a scalar
-no_part : (insts : List Instruction) (table : Table) (t j : ℕ) → IsSoundType insts table t → (is_bool insts t || is_int insts t) ≡ true → part_at insts t j ≡ None
+pub no_part : (insts : List Instruction) (table : Table) (t j : ℕ) → IsSoundType insts table t → (is_bool insts t || is_int insts t) ≡ true → part_at insts t j ≡ None
 no_part insts table t j sound h =
     let plain = small_no_struct insts table t sound (scalar_unit insts table t sound h).small in
     rw (plain.0, plain.1, scalar_no_vector insts table t sound h) refl

@@ -9,3 +9,4 @@ pub mod SuitLemmas
 pub mod OperandLemmas
 pub mod FormLemmas
 pub mod Walking
+pub mod Leading
