@@ -21,7 +21,7 @@ use Rattle.spv_types.specs.declared.meaning.Kept.{Kept}
 use Rattle.spv_types.specs.Declaring.{IsReady}
 use Rattle.spv_types.proofs.CompositeLemmas.{next_sound, vector_of_scalars, scalar_unit}
 use Rattle.spv_types.proofs.FormLemmas.{no_part}
-use Rattle.spv_types.proofs.Walking.{LeadsTo}
+use Rattle.spv_types.specs.Extracting.{LeadsTo}
 
 -- ---- the types of parts are defined before
 

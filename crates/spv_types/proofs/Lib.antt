@@ -10,3 +10,4 @@ pub mod OperandLemmas
 pub mod FormLemmas
 pub mod Walking
 pub mod Leading
+pub mod Reaching

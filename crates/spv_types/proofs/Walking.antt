@@ -9,15 +9,8 @@ use Rattle.spv_meaning.specs.Parts.{packed_part}
 use Rattle.spv_meaning.specs.Types.{DataType, Void, Boolean, Integer, Vector, Array, RuntimeArray, Struct, Members, cells}
 use Rattle.spv_folding.specs.Folding.{member_types, AreSized}
 use Rattle.spv_folding.proofs.Extraction.{extract_here, extract_member, extract_element, extract_past, extract_component, extract_zeros, type_here, type_in_member, type_in_element, type_in_component}
+use Rattle.spv_types.specs.Extracting.{LeadsTo, IsPart, ArePartsOf}
 use Rattle.spv_types.specs.Meanings.{joined, words_numbered, words_in_entry}
-
--- literals that lead from a type to another: into structs to a member, into arrays, and into vectors to a component
-abbrev pub LeadsTo : (t u : DataType) → (literals : List ℕ) → Type 0
-LeadsTo t u [] = u ≡ t
-LeadsTo t (Vector n v) (j ∷ rest) = (j < n) × ((cells v ≡ 1) × ((v ≡ t) × (rest ≡ [])))
-LeadsTo t (Array stride n v) (j ∷ rest) = LeadsTo t v rest
-LeadsTo t (Struct ms) (j ∷ rest) = (v : DataType) × ((slice_get (member_types ms) j ≡ Some v) × LeadsTo t v rest)
-LeadsTo t u (j ∷ rest) = ⊥
 
 -- what they lead to has as many words; induction on the literals
 pub leads-cells : (t u : DataType) (literals : List ℕ) → LeadsTo t u literals → IfSome (packed_part literals (whole_part u)) (λ p. cells p.type ≡ cells t)
@@ -32,25 +25,11 @@ leads-cells t Boolean (j ∷ rest) h = absurd h
 leads-cells t (Integer width signed) (j ∷ rest) h = absurd h
 leads-cells t (RuntimeArray stride v) (j ∷ rest) h = absurd h
 
--- an entry is a constant of a type, with as many words
-pub record IsPart (table : Table) (t : DataType) (n : ℕ) : Type 0 where
-  pub id : ℕ
-  pub words : List ℕ
-  pub stands : slice_get table n ≡ Some (id, IsConstant t words)
-  pub sized : length words ≡ cells t
-
-part-words : (table : Table) (t : DataType) (n : ℕ) (p : IsPart table t n) → words_numbered table n ≡ p.words
+pub part-words : (table : Table) (t : DataType) (n : ℕ) (p : IsPart table t n) → words_numbered table n ≡ p.words
 part-words table t n p = ap words_in_entry p.stands
 
 pub part-sized : (table : Table) (t : DataType) (n : ℕ) → IsPart table t n → length (words_numbered table n) ≡ cells t
 part-sized table t n p = ap length (part-words table t n p) ∙ p.sized
-
--- entries are constants of these types
-abbrev pub ArePartsOf : Table → List DataType → (numbers : List ℕ) → Type 0
-ArePartsOf table [] [] = Unit {0}
-ArePartsOf table [] (n ∷ ns) = ⊥
-ArePartsOf table (t ∷ ts) [] = ⊥
-ArePartsOf table (t ∷ ts) (n ∷ ns) = IsPart table t n × ArePartsOf table ts ns
 
 joined-concat : (table : Table) (ns : List ℕ) → joined table ns ≡ concat (map (words_numbered table) ns)
 joined-concat table [] = refl

@@ -4,3 +4,4 @@ pub mod Steps
 pub mod Declaring
 pub mod Suits
 pub mod Computing
+pub mod Extracting

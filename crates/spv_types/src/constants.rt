@@ -13,7 +13,7 @@ use crate::meanings::Meanings;
 use spv_folding::zeros;
 use spv_value::Operand;
 
-fn constant_in(kept: Option<&Kept>) -> Option<&Constant>
+pub fn constant_in(kept: Option<&Kept>) -> Option<&Constant>
     ensures { option_copied result ≡ constant_of_kept (option_copied kept.entry) }
 {
     match kept {

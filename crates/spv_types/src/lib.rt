@@ -6,6 +6,7 @@ mod computed_constant;
 mod constants;
 pub mod declared_constant;
 mod evaluation;
+mod extraction;
 pub mod facts;
 pub mod meaning;
 mod meanings;
