@@ -61,8 +61,8 @@ adds_number table id n m old new h same push = record {
   below = λ b. subst (λ xs. AllBelow (length table) xs) (sym push) (AllBelow-push (length table) m old b (subst (λ x. x < length table) (sym same) h.within));
 }
 
-pub adds_nothing : (table : Table) (id : ℕ) (old : List ℕ) → words_at table id ≡ [] → AddsWords table old old (words_at table id)
-adds_nothing table id old e = record { words_are = sym (append-nil (joined table old)) ∙ ap (λ ws. joined table old ++ ws) (sym e); below = λ b. b }
+pub adds_nothing : (table : Table) (id : ℕ) (old : List ℕ) → meaning table id ≡ None → AddsWords table old old (words_at table id)
+adds_nothing table id old e = record { words_are = sym (append-nil (joined table old)) ∙ ap (λ ws. joined table old ++ ws) (sym (ap words_in e)); below = λ b. b }
 
 pub parts-next : (table : Table) (ids : List ℕ) (i : ℕ) (old new : List ℕ) → i < length ids → HasParts table (composed table (take i ids)) old → AddsWords table old new (words_at table (slice_index ids i)) →
     HasParts table (composed table (take (i + 1) ids)) new

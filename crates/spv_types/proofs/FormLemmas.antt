@@ -26,12 +26,12 @@ use Rattle.spv_folding.specs.Folding.{AreOperands}
 use Rattle.spv_types.specs.declared.meaning.Kept.{Kept}
 use Rattle.spv_types.specs.Meanings.{is_small, words_in_entry}
 use Rattle.spv_types.specs.Steps.{constant_opcodes}
-use Rattle.spv_types.specs.Declaring.{is_extraction, IsReady, AreSmall}
+use Rattle.spv_types.specs.Declaring.{IsReady, AreSmall}
 use Rattle.spv_types.specs.Computing.{computed_by, ids_by, IsShuffled, IsInserted}
 use Rattle.spv_types.proofs.CompositeLemmas.{typed_words, sound_typed, sound_words, next_sound, vector_of_scalars, vector_small, scalar_unit}
 use Rattle.spv_types.proofs.DeclarationLemmas.{all_known, type_known}
 use Rattle.spv_types.proofs.OpcodeLemmas.{shape_small}
-use Rattle.spv_types.proofs.SuitLemmas.{each_operation, short_opcode}
+use Rattle.spv_types.proofs.SuitLemmas.{short_opcode}
 use Rattle.spv_types.proofs.OperandLemmas.{words_all, ints_suited, bools_suited, compares_suited, selects_suited, some_shape}
 
 -- the words are what the form computes
@@ -276,16 +276,3 @@ some_form insts k i ks ready is_o = let f = fitting-form insts i is_o ready.next
 
 pub no_long_opcode : (o n : ℕ) (form : Form) → form_of o ≡ Some form → n ≡ o → (n < 65536 → ⊥) → ⊥
 no_long_opcode o n form is same long = long (subst (λ (m : ℕ). m < 65536) (sym same) (ltb-true o 65536 (short_opcode o form is)))
-
-extracts_only : ℕ → Form → Bool
-extracts_only o Extracts = o == op.COMPOSITE_EXTRACT
-extracts_only o form = true
-
--- the only one that extracts
-pub no_extraction : (i : Instruction) (o : ℕ) (form : Form) → form_of o ≡ Some form → o ≡ slice_index i.words 3 → opcode i ≡ op.SPEC_CONSTANT_OP → is_extraction i ≡ false → form ≡ Extracts → ⊥
-unfolding extracts_only
-no_extraction i o form is same is_o plain e =
-    let at : extracts_only o Extracts ≡ true = subst (λ (f : Form). extracts_only o f ≡ true) e (each_operation extracts_only spec_operations refl o form is) in
-    let word : (slice_index i.words 3 == op.COMPOSITE_EXTRACT) ≡ true = sym (ap (λ (n : ℕ). n == op.COMPOSITE_EXTRACT) same) ∙ at in
-    let opcode_is : (opcode i == op.SPEC_CONSTANT_OP) ≡ true = ap (λ (n : ℕ). n == op.SPEC_CONSTANT_OP) is_o in
-    false≢true (sym plain ∙ and_from (opcode i == op.SPEC_CONSTANT_OP) (slice_index i.words 3 == op.COMPOSITE_EXTRACT) opcode_is word)

@@ -11,3 +11,4 @@ pub mod FormLemmas
 pub mod Walking
 pub mod Leading
 pub mod Reaching
+pub mod ExtractLemmas

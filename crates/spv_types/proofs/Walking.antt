@@ -31,7 +31,7 @@ part-words table t n p = ap words_in_entry p.stands
 pub part-sized : (table : Table) (t : DataType) (n : ℕ) → IsPart table t n → length (words_numbered table n) ≡ cells t
 part-sized table t n p = ap length (part-words table t n p) ∙ p.sized
 
-joined-concat : (table : Table) (ns : List ℕ) → joined table ns ≡ concat (map (words_numbered table) ns)
+pub joined-concat : (table : Table) (ns : List ℕ) → joined table ns ≡ concat (map (words_numbered table) ns)
 joined-concat table [] = refl
 joined-concat table (n ∷ ns) = ap (λ ws. words_numbered table n ++ ws) (joined-concat table ns)
 
@@ -56,7 +56,7 @@ part-at table (u ∷ ts) (n ∷ ns) zero t h e = record { number = n; at = refl;
     same u t e = cc
 part-at table (u ∷ ts) (n ∷ ns) (suc j) t h e = let p = part-at table ts ns j t h.1 e in record { number = p.number; at = p.at; is = p.is }
 
-words-at : (table : Table) (ns : List ℕ) (j n : ℕ) → slice_get ns j ≡ Some n → slice_get (map (words_numbered table) ns) j ≡ Some (words_numbered table n)
+pub words-at : (table : Table) (ns : List ℕ) (j n : ℕ) → slice_get ns j ≡ Some n → slice_get (map (words_numbered table) ns) j ≡ Some (words_numbered table n)
 words-at table [] j n e = cc
 words-at table (m ∷ ns) zero n e = ap (λ o. words_of_some o) e
   where

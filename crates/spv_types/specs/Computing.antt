@@ -1,13 +1,15 @@
 -- What OpSpecConstantOp makes of the words behind the opcode of its operation.
-use Rattle.std.specs.Prelude.{◌≡◌, ℕ, ◌≤◌, List, [], ◌∷◌, ◌++◌, length, map, take, drop, slice_index, slice_set}
+use Rattle.std.specs.Prelude.{◌≡◌, ℕ, ◌≤◌, List, [], ◌∷◌, ◌++◌, length, map, take, drop, slice_index, slice_set, Option, Some}
 use Rattle.spv_value.specs.declared.words.Operand.{Operand}
 use Rattle.spv_value.specs.Words.{words_of}
 use Rattle.spv_meaning.specs.Computations as computes
-use Rattle.spv_meaning.specs.Computations.{Computation, computed, shuffled}
-use Rattle.spv_meaning.specs.Constants.{Table, typed_at}
+use Rattle.spv_meaning.specs.Computations.{Computation, computed, shuffled, extracted, whole_part}
+use Rattle.spv_meaning.specs.Constants.{Table, Meaning, IsConstant, meaning, typed_at}
 use Rattle.spv_meaning.specs.Types.{DataType}
 use Rattle.spv_typing.specs.declared.operations.Form.{Form}
 use Rattle.spv_typing.specs.declared.operations.Form.TheVariants.{Shuffles, Extracts, Inserts}
+use Rattle.spv_meaning.specs.Parts.{packed_part}
+use Rattle.spv_types.specs.Extracting.{LeadsTo}
 use Rattle.spv_types.specs.Declaring.{AreSmall}
 
 -- what an operation of the form computes, and of which of the words as ids
@@ -38,3 +40,13 @@ abbrev pub IsInserted : Table → List ℕ → Operand → Type 0
 IsInserted table (o ∷ c ∷ j ∷ []) x =
     AreSmall table (o ∷ c ∷ []) → length (typed_at table c).words ≤ 4 → words_of x ≡ slice_set (typed_at table c).words j (slice_index (typed_at table o).words 0)
 IsInserted table ids x = Unit {0}
+
+-- the part of a constant that literals lead to
+abbrev pub IsExtractedFrom : Table → (t : DataType) → (c : ℕ) → (literals : List ℕ) → Operand → Type 0
+IsExtractedFrom table t c literals x =
+    meaning table c ≡ Some (IsConstant (typed_at table c).type (typed_at table c).words) → LeadsTo t (typed_at table c).type literals →
+    words_of x ≡ extracted t (typed_at table c).words (packed_part literals (whole_part (typed_at table c).type))
+
+abbrev pub IsExtracted : Table → (t : DataType) → List ℕ → Operand → Type 0
+IsExtracted table t [] x = Unit {0}
+IsExtracted table t (c ∷ literals) x = IsExtractedFrom table t c literals x

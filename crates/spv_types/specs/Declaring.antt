@@ -1,10 +1,10 @@
 -- What is known in front of a constant's declaration, and what is kept of the constant.
-use Rattle.std.specs.Prelude.{◌≡◌, ℕ, ◌<◌, ◌==◌, ◌&&◌, Bool, true, false, List, [], ◌∷◌, ◌++◌, length, nat_eq, slice_index, Option, Some, None}
+use Rattle.std.specs.Prelude.{◌≡◌, ℕ, ◌<◌, ◌==◌, ◌&&◌, Bool, true, false, List, [], ◌∷◌, ◌++◌, length, nat_eq, slice_get, slice_index, Option, Some, None}
 use Rattle.std.specs.Map.{lookup}
 use Rattle.spv_opcodes.specs.declared.op.TheConstants as op
 use Rattle.spv_module.specs.Instruction.{Instruction, opcode}
 use Rattle.spv_value.specs.Eval.{AreBooleanWords}
-use Rattle.spv_meaning.specs.Constants.{Table, IsConstant, meaning, words_at, typed_at}
+use Rattle.spv_meaning.specs.Constants.{Table, Meaning, IsConstant, meaning, words_at, typed_at}
 use Rattle.spv_meaning.specs.Types.{DataType}
 use Rattle.spv_typing.specs.declared.shapes.Shape.{Shape}
 use Rattle.spv_typing.specs.Kinds.{is_one_of, is_constant, type_of}
@@ -19,6 +19,7 @@ use Rattle.spv_value.specs.declared.words.Operand.{Operand}
 use Rattle.spv_types.specs.Facts.{in_64_bits}
 use Rattle.spv_types.specs.Meanings.{IsValue, StandFor, AllBelow, words_numbered, joined, is_small, constant_of_kept}
 use Rattle.spv_types.specs.Steps.{IsNext}
+use Rattle.spv_types.specs.Extracting.{AreComposed}
 
 -- each Specialised id is a constant
 pub record OnlyConstants (d : Declared) : Type 0 where
@@ -30,14 +31,10 @@ pub record AreSound (insts : List Instruction) (k : ℕ) : Type 0 where
   pub booleans : (id : ℕ) (s : Shape) → IsBefore insts k id → is_constant insts id ≡ true → shape insts (type_of insts id) ≡ Some s → s.is_boolean ≡ true →
       AreBooleanWords (words_at (table_before insts k) id)
 
--- an OpSpecConstantOp of OpCompositeExtract
-abbrev pub is_extraction : Instruction → Bool
-is_extraction i = opcode i == op.SPEC_CONSTANT_OP && slice_index i.words 3 == op.COMPOSITE_EXTRACT
-
--- the k-th declares a constant, but not by an extraction, and so much stands for what those before it declared
+-- the k-th declares a constant, and so much stands for what those before it declared
 pub record IsReady (insts : List Instruction) (k : ℕ) (i : Instruction) (entries : List (ℕ × Kept)) : Type 0 where
   pub next : IsNext insts k i
-  pub plain : is_extraction i ≡ false
+  pub composed : AreComposed (declared_before insts k).table entries
   pub only : OnlyConstants (declared_before insts k)
   pub sound : AreSound insts k
   pub stand : StandFor (declared_before insts k).table (declared_before insts k).specialised entries
@@ -47,10 +44,15 @@ pub record HasWords (table : Table) (t : DataType) (words : List ℕ) (c : Const
   pub value : IsValue table (length table) c.value t words
   pub cells : c.cells ≡ in_64_bits (length words)
 
+abbrev pub meaning_in_entry : Option (ℕ × Meaning) → Option Meaning
+meaning_in_entry None = None
+meaning_in_entry (Some e) = Some e.1
+
 -- the number of an id's entry
 pub record IsNumber (table : Table) (id n : ℕ) : Type 0 where
   pub within : n < length table
   pub same : words_numbered table n ≡ words_at table id
+  pub meant : meaning_in_entry (slice_get table n) ≡ meaning table id
 
 -- the words of a scalar or a vector, where it is one
 abbrev pub IsOperandIn : Value → Operand → Type 0

@@ -1,29 +1,31 @@
 // What OpSpecConstantOp computes of constants.
-ghost use Rattle.std.specs.Prelude.{◌≡◌, ◌≢◌, ℕ, true, List, nat_le, length, Some, slice_index};
+ghost use Rattle.std.specs.Prelude.{◌≡◌, ◌≤◌, ℕ, true, List, nat_le, length, Some, slice_index};
 ghost use Rattle.std.specs.List.{list_all};
 ghost use Rattle.spv_opcodes.specs.declared.op.TheConstants as op;
 ghost use Rattle.spv_module.specs.Instruction.{Instruction, opcode as opcode_in};
 ghost use Rattle.spv_module.specs.View.{seen};
 ghost use Rattle.spv_value.specs.Words.{words_of};
 ghost use Rattle.spv_meaning.specs.Constants.{Table, IsConstant, type_at};
-ghost use Rattle.spv_meaning.specs.Types.{DataType};
+ghost use Rattle.spv_meaning.specs.Types.{DataType, cells};
 ghost use Rattle.spv_ids.specs.Ids.{is_defined_before};
 ghost use Rattle.spv_typing.specs.Operations.{form_of as form_in, operands_fit};
-ghost use Rattle.spv_typing.specs.declared.operations.Form.TheVariants as forms;
 ghost use Rattle.spv_declarations.specs.Declarations.{says, entry};
 ghost use Rattle.spv_declarations.specs.Sound.{IsBefore, table_before};
-ghost use Rattle.spv_types.specs.Meanings.{StandFor};
+ghost use Rattle.spv_types.specs.Meanings.{StandFor, is_small};
+ghost use Rattle.spv_types.specs.Extracting.{AreComposed};
 ghost use Rattle.spv_types.specs.Declaring.{IsReady};
-ghost use Rattle.spv_types.specs.Computing.{computed_by, ids_by, IsShuffled, IsInserted};
+ghost use Rattle.spv_types.specs.Computing.{computed_by, ids_by, IsShuffled, IsInserted, IsExtractedFrom, IsExtracted};
 
-use crate::constants::operand_of;
+use crate::constants::{number_of, operand_of};
 use crate::evaluation::evaluated;
+use crate::extraction::part_along;
 use crate::meanings::Meanings;
 use spv_folding::{component, shuffle, with_component, zeros};
 use spv_ids::{word, words_from};
 use spv_module::View;
 use spv_typing::Kinds;
 use spv_typing::operations::{Form, form_of};
+use spv_typing::shapes::count_of;
 use spv_value::Operand;
 
 /// Components of two vectors, by the ids of the vectors and literals of which there are four at most.
@@ -72,9 +74,24 @@ fn inserted(meanings: &Meanings, operands: &[u32]) -> Operand
     }
 }
 
-/// The part of a composite that literals lead to, by the id of the composite and the literals.
-fn extracted(kinds: &Kinds, meanings: &Meanings, t: u32, operands: &[u32]) -> Operand {
-    zeros(0)
+/// The part, of so many words, of the constant that literals lead to.
+fn extracted_from(meanings: &Meanings, count: u32, composite: u32, literals: &[u32]) -> Operand
+    ensures { (table : Table) (specialised : List ℕ) (t : DataType) → StandFor table specialised meanings.now.entries → AreComposed table meanings.now.entries → is_small t ≡ true → cells t ≡ count → count ≤ 4 → IsExtractedFrom table t composite literals.now result }
+{
+    match number_of(meanings, composite) {
+        Some(number) => part_along(meanings, count, number, literals),
+        None => zeros(0),
+    }
+}
+
+/// The part, of so many words, that literals lead to, by the id of the composite and the literals.
+fn extracted(meanings: &Meanings, count: u32, operands: &[u32]) -> Operand
+    ensures { (table : Table) (specialised : List ℕ) (t : DataType) → StandFor table specialised meanings.now.entries → AreComposed table meanings.now.entries → is_small t ≡ true → cells t ≡ count → count ≤ 4 → IsExtracted table t operands.now result }
+{
+    match operands {
+        [composite, literals @ ..] => extracted_from(meanings, count, *composite, literals),
+        _ => zeros(0),
+    }
 }
 
 /// What an operation of the form makes of the words behind its opcode.
@@ -87,11 +104,11 @@ fn by_form(
     operands: &[u32],
 ) -> Operand
     requires { form_in opcode ≡ Some form }
-    ensures { (k : ℕ) (i : Instruction) → IsReady kinds.now k i meanings.now.entries → IsBefore kinds.now k t → operands_fit kinds.now form t operands.now ≡ true → list_all (is_defined_before kinds.now k) (ids_by form operands.now) ≡ true → form ≢ forms.Extracts → words_of result ≡ computed_by (table_before kinds.now k) form opcode (type_at (table_before kinds.now k) t) operands.now }
+    ensures { (k : ℕ) (i : Instruction) → IsReady kinds.now k i meanings.now.entries → IsBefore kinds.now k t → operands_fit kinds.now form t operands.now ≡ true → list_all (is_defined_before kinds.now k) (ids_by form operands.now) ≡ true → words_of result ≡ computed_by (table_before kinds.now k) form opcode (type_at (table_before kinds.now k) t) operands.now }
 {
     match form {
         Form::Shuffles => shuffled(meanings, operands),
-        Form::Extracts => extracted(kinds, meanings, t, operands),
+        Form::Extracts => extracted(meanings, count_of(kinds.shape(t)), operands),
         Form::Inserts => inserted(meanings, operands),
         Form::Ints(_) => evaluated(meanings, form, opcode, operands),
         Form::Bools(_) => evaluated(meanings, form, opcode, operands),

@@ -12,7 +12,8 @@ ghost use Rattle.spv_ids.specs.Ids.{words_with};
 ghost use Rattle.spv_declarations.specs.Sound.{IsBefore, table_before};
 ghost use Rattle.spv_types.specs.Meanings.{StandFor};
 ghost use Rattle.spv_types.specs.Steps.{IsNext, KeepsConstant, constant_opcodes};
-ghost use Rattle.spv_types.specs.Declaring.{is_extraction, OnlyConstants, AreSound, IsReady, HasWords, DeclaresWords, flag_at};
+ghost use Rattle.spv_types.specs.Extracting.{AreComposed};
+ghost use Rattle.spv_types.specs.Declaring.{OnlyConstants, AreSound, IsReady, HasWords, DeclaresWords, flag_at};
 
 use crate::composites::{composite, small};
 use crate::computed_constant::computed_constant;
@@ -120,7 +121,7 @@ pub fn declared_constant(
     inst: &View,
 ) -> Result<Constant, NoMemory>
     requires same { decorations.now ≡ kinds.now }
-    ensures { IfOk result (λ c. (k : ℕ) → IsNext kinds.now k (seen inst.now) → is_one_of constant_opcodes (opcode_in (seen inst.now)) ≡ true → is_extraction (seen inst.now) ≡ false → OnlyConstants (declared_before kinds.now k) → AreSound kinds.now k → StandFor (declared_before kinds.now k).table (declared_before kinds.now k).specialised meanings.now.entries → KeepsConstant kinds.now (declared_before kinds.now k) (seen inst.now) c) }
+    ensures { IfOk result (λ c. (k : ℕ) → IsNext kinds.now k (seen inst.now) → is_one_of constant_opcodes (opcode_in (seen inst.now)) ≡ true → AreComposed (declared_before kinds.now k).table meanings.now.entries → OnlyConstants (declared_before kinds.now k) → AreSound kinds.now k → StandFor (declared_before kinds.now k).table (declared_before kinds.now k).specialised meanings.now.entries → KeepsConstant kinds.now (declared_before kinds.now k) (seen inst.now) c) }
 {
     let is_specialised = is_specialised(decorations, meanings, inst);
     with_words(alloc, kinds, meanings, inst, is_specialised)
