@@ -1,13 +1,12 @@
 -- An extraction of constants.
-use Rattle.std.proofs.Common.{◌≡◌, ℕ, ◌≤◌, Bool, true, false, ◌==◌, ◌&&◌, nat_lt, List, [], ◌∷◌, length, slice_get, Option, Some, None, refl, sym, ap, subst, ◌∙◌, arith}
-use Rattle.std.specs.List.{list_all}
+use Rattle.std.proofs.Common.{◌≡◌, ℕ, ◌≤◌, true, ◌&&◌, nat_lt, List, [], ◌∷◌, length, slice_get, Option, Some, None, refl, sym, ap, subst, ◌∙◌}
 use Rattle.std.specs.Option.{is_some}
 use Rattle.std.proofs.lemmas.Bool.{eqb-true, and_parts}
 use Rattle.spv_module.specs.Instruction.{Instruction}
 use Rattle.spv_value.specs.declared.words.Operand.{Operand}
 use Rattle.spv_value.specs.Words.{words_of}
 use Rattle.spv_meaning.specs.Computations.{computed, extracted, whole_part}
-use Rattle.spv_meaning.specs.Constants.{Table, Meaning, IsConstant, meaning, type_at, typed_in, typed_at, words_in, words_at}
+use Rattle.spv_meaning.specs.Constants.{Table, Meaning, IsConstant, meaning, type_at, typed_in, typed_at}
 use Rattle.spv_meaning.specs.Parts.{packed_part}
 use Rattle.spv_meaning.specs.Types.{DataType, cells}
 use Rattle.spv_ids.specs.Ids.{is_defined_before}

@@ -2,7 +2,7 @@
 use Rattle.std.proofs.Common.{◌≡◌, ℕ, ◌*◌, ◌<◌, ◌≤◌, Bool, true, false, cond, ◌==◌, ◌&&◌, ◌||◌, nat_lt, List, [], ◌∷◌, length, map, drop, slice_index, Option, Some, None, ◌⊎◌, inl, inr, refl, sym, ap, subst, ◌∙◌, arith}
 use Rattle.std.specs.List.{list_all}
 use Rattle.std.specs.Option.{is_some}
-use Rattle.std.proofs.lemmas.Bool.{eqb-true, and_parts, and_from, or_cases, ltb-true, false≢true}
+use Rattle.std.proofs.lemmas.Bool.{eqb-true, and_parts, or_cases, ltb-true, false≢true}
 use Rattle.spv_opcodes.specs.declared.op.TheConstants as op
 use Rattle.spv_module.specs.Instruction.{Instruction, opcode}
 use Rattle.spv_value.specs.declared.words.Operand.{Operand}
@@ -16,7 +16,7 @@ use Rattle.spv_ids.specs.Ids.{is_defined_before}
 use Rattle.spv_typing.specs.declared.operations.Form.{Form}
 use Rattle.spv_typing.specs.declared.operations.Form.TheVariants.{Ints, Bools, Compares, Selects, Shuffles, Extracts, Inserts}
 use Rattle.spv_typing.specs.Kinds.{is_one_of, is_bool, is_int, is_vector, is_array, is_struct, is_constant, type_of, has_type, component, component_count}
-use Rattle.spv_typing.specs.Operations.{spec_operations, form_of, shape, operands_fit, is_vector_of, all_pick, components_of, literals_lead, part_at, part_along, part_behind, leads_to}
+use Rattle.spv_typing.specs.Operations.{form_of, shape, operands_fit, is_vector_of, all_pick, components_of, literals_lead, part_at, part_along, part_behind, leads_to}
 use Rattle.spv_declarations.specs.Declarations.{says, entry}
 use Rattle.spv_declarations.specs.Sound.{IsBefore, table_before, IsSoundType}
 use Rattle.spv_declarations.proofs.Consequences.{type_before}

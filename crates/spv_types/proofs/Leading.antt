@@ -1,18 +1,18 @@
 -- Literals that lead from type to type by instructions lead so in the types themselves.
-use Rattle.std.proofs.Common.{◌≡◌, ℕ, zero, suc, ◌+◌, ◌<◌, ◌≤◌, Bool, true, false, cond, ◌==◌, ◌&&◌, ◌||◌, nat_lt, List, [], ◌∷◌, length, map, drop, slice_get, slice_index, Option, Some, None, refl, sym, ap, subst, ◌∙◌, arith}
+use Rattle.std.proofs.Common.{◌≡◌, ℕ, zero, suc, Bool, true, false, cond, ◌&&◌, nat_lt, List, [], ◌∷◌, slice_get, Option, Some, None, refl, sym, ap, subst, ◌∙◌, arith}
 use Rattle.std.specs.List.{list_all}
 use Rattle.std.proofs.lemmas.Bool.{and_parts, ltb-true}
 use Rattle.spv_opcodes.specs.declared.op.TheConstants as op
 use Rattle.spv_grammar.specs.Table.{row_of}
 use Rattle.spv_module.specs.Instruction.{Instruction}
-use Rattle.spv_meaning.specs.Constants.{Table, Meaning, IsType, meaning, type_in, type_at, length_at, members_of}
+use Rattle.spv_meaning.specs.Constants.{Table, type_in, type_at, members_of}
 use Rattle.spv_meaning.specs.Statements.{Statement}
-use Rattle.spv_meaning.specs.Types.{DataType, Vector, Array, Struct, cells}
+use Rattle.spv_meaning.specs.Types.{DataType}
 use Rattle.spv_ids.specs.Ids.{is_defined_before}
-use Rattle.spv_typing.specs.Kinds.{is_vector, is_array, is_struct, component, component_count, element, length_id, members}
+use Rattle.spv_typing.specs.Kinds.{is_vector, is_array, is_struct, component, component_count, element, members}
 use Rattle.spv_typing.specs.Operations.{part_at, part_along, part_behind}
 use Rattle.spv_declarations.specs.Declarations.{says, declared_before}
-use Rattle.spv_declarations.specs.Sound.{AreInstructions, Unbroken, IsBefore, table_before, IsSoundType}
+use Rattle.spv_declarations.specs.Sound.{AreInstructions, Unbroken, IsBefore, table_before}
 use Rattle.spv_declarations.proofs.Sites.{site-of, word-is, words-is}
 use Rattle.spv_declarations.proofs.SoundTypes.{struct-known, element-known}
 use Rattle.spv_declarations.proofs.Tables.{stays-defined}
@@ -73,6 +73,7 @@ leads_step insts k i ks ready j t u rest before ih e = by_struct (is_struct inst
         let is = (next_sound insts k i ks ready t before).struct s in
         subst (λ (v : DataType). LeadsTo (type_at (table_before insts k) u) v (j ∷ rest)) (sym (ap type_in is))
         (type_at (table_before insts k) m, (member-at (says insts) (table_before insts k) t 0 (members insts t) j m at, ih m known e))
+
     in_vector : (v : Bool) → is_vector insts t ≡ v → (w : Bool) → nat_lt j (component_count insts t) ≡ w → part_behind (part_along insts rest) (cond (v && w) (Some (component insts t)) None) ≡ Some u →
         LeadsTo (type_at (table_before insts k) u) (type_at (table_before insts k) t) (j ∷ rest)
     in_vector true v true w e =
@@ -85,6 +86,7 @@ leads_step insts k i ks ready j t u rest before ih e = by_struct (is_struct inst
         (ltb-true j (component_count insts t) w, ((scalar_unit insts (table_before insts k) (component insts t) sound of.kind).single, (ap (type_at (table_before insts k)) ends.1, ends.0)))
     in_vector true v false w e = cc
     in_vector false v w x e = cc
+
     by_array : (b : Bool) → is_array insts t ≡ b → part_behind (part_along insts rest) (cond b (Some (element insts t)) (cond (is_vector insts t && nat_lt j (component_count insts t)) (Some (component insts t)) None)) ≡ Some u →
         LeadsTo (type_at (table_before insts k) u) (type_at (table_before insts k) t) (j ∷ rest)
     by_array true a e =
@@ -93,6 +95,7 @@ leads_step insts k i ks ready j t u rest before ih e = by_struct (is_struct inst
         let is = (next_sound insts k i ks ready t before).array a in
         subst (λ (v : DataType). LeadsTo (type_at (table_before insts k) u) v (j ∷ rest)) (sym (ap type_in is.1)) (ih (element insts t) known e)
     by_array false a e = in_vector (is_vector insts t) refl (nat_lt j (component_count insts t)) refl e
+
     by_struct : (b : Bool) → is_struct insts t ≡ b →
         part_behind (part_along insts rest) (cond b (slice_get (members insts t) j) (cond (is_array insts t) (Some (element insts t)) (cond (is_vector insts t && nat_lt j (component_count insts t)) (Some (component insts t)) None))) ≡ Some u →
         LeadsTo (type_at (table_before insts k) u) (type_at (table_before insts k) t) (j ∷ rest)

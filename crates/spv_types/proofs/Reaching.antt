@@ -1,5 +1,5 @@
 -- How far literals have led into a constant.
-use Rattle.std.proofs.Common.{◌≡◌, ℕ, zero, suc, ◌+◌, ◌*◌, ◌<◌, ◌≤◌, Bool, true, false, List, [], ◌∷◌, ◌++◌, length, map, drop, replicate, slice_get, slice_index, Option, Some, None, Result, Ok, Err, refl, sym, ap, subst, ◌∙◌, arith}
+use Rattle.std.proofs.Common.{◌≡◌, ℕ, zero, suc, ◌+◌, ◌*◌, ◌<◌, ◌≤◌, true, false, List, [], ◌∷◌, length, map, drop, replicate, slice_get, slice_index, Option, Some, None, Ok, Err, refl, sym, ap, subst, ◌∙◌, arith}
 use Rattle.std.specs.List.{All}
 use Rattle.std.proofs.lemmas.List.{length-replicate, length-map}
 use Rattle.std.proofs.Math.Seq.{drop-cons}
@@ -7,7 +7,7 @@ use Rattle.std.proofs.Math.ListN.{drop_of_length-le}
 use Rattle.spv_value.specs.declared.words.Operand.{Operand}
 use Rattle.spv_value.specs.Words.{words_of}
 use Rattle.spv_meaning.specs.Computations.{extracted, whole_part}
-use Rattle.spv_meaning.specs.Constants.{Table, Meaning, IsType, IsPointer, IsConstant, IsVariable}
+use Rattle.spv_meaning.specs.Constants.{Table, Meaning, IsConstant}
 use Rattle.spv_meaning.specs.Parts.{packed_part}
 use Rattle.spv_meaning.specs.Types.{DataType, Void, Boolean, Integer, Vector, Array, RuntimeArray, Struct, cells}
 use Rattle.spv_folding.specs.Folding.{member_types}
@@ -17,7 +17,7 @@ use Rattle.spv_types.specs.declared.meaning.Kept.{Kept}
 use Rattle.spv_types.specs.declared.meaning.Kept.TheVariants as kept
 use Rattle.spv_types.specs.declared.meaning.Value.{Value}
 use Rattle.spv_types.specs.declared.meaning.Value.TheVariants.{Small, Zeros, Parts}
-use Rattle.spv_types.specs.Meanings.{IsValue, StandsFor, StandFor, constant_of_kept, second, words_numbered, words_in_entry, is_small, joined}
+use Rattle.spv_types.specs.Meanings.{IsValue, StandFor, constant_of_kept, second, words_numbered, is_small, joined}
 use Rattle.spv_types.specs.Declaring.{IsOperandOf, IsOperandIn}
 use Rattle.spv_types.specs.Extracting.{LeadsTo, IsPart, ArePartsOf, part_types, HasNumbers, AreComposed, IsValueStep, IsStep}
 use Rattle.spv_types.proofs.Standing.{AreAlikeEntries, StandFrom-at}
@@ -181,7 +181,7 @@ next_of : (table : Table) (ids : List ℕ) (entries : List (ℕ × Kept)) (t : D
 next_of table ids entries t n j rest all h composed r count m step =
     let k = kept_at table ids entries r.type n h r.part in
     let inner = step_in table k.m k.constant.value t r.type r.part.words j count m rest k.value r.leads (λ numbers has. composed.parts n r.part.id r.type r.part.words k.constant numbers r.part.stands k.is has)
-      (subst (λ (c : Option Constant). IsStep c j count (Ok m)) k.is step) in
+    (subst (λ (c : Option Constant). IsStep c j count (Ok m)) k.is step) in
     record { type = inner.type; part = inner.part; leads = inner.leads; same = r.same ∙ ap (λ ws. extracted t ws (packed_part (j ∷ rest) (whole_part r.type))) (part-words table r.type n r.part) ∙ inner.same }
 
 out_of : (table : Table) (ids : List ℕ) (entries : List (ℕ × Kept)) (t : DataType) (n j : ℕ) (rest all : List ℕ) → StandFor table ids entries → AreComposed table entries → Reaches table t n (j ∷ rest) all → (count : ℕ) (x : Operand) →

@@ -1,14 +1,13 @@
 -- The part of a constant that literals lead to, from part to part.
-use Rattle.std.proofs.Common.{◌≡◌, ℕ, zero, suc, ◌+◌, ◌<◌, ◌≤◌, Bool, true, false, List, [], ◌∷◌, ◌++◌, length, map, replicate, slice_get, slice_index, Option, Some, None, refl, sym, ap, subst, ◌∙◌, arith}
-use Rattle.std.specs.List.{concat, All, AllZip}
+use Rattle.std.proofs.Common.{◌≡◌, ℕ, zero, suc, List, [], ◌∷◌, ◌++◌, length, map, replicate, slice_get, slice_index, Option, Some, None, refl, sym, ap, subst, ◌∙◌}
+use Rattle.std.specs.List.{concat}
 use Rattle.std.specs.Option.{IfSome}
-use Rattle.std.proofs.lemmas.List.{length-replicate, length-map}
 use Rattle.spv_meaning.specs.Computations.{extracted, whole_part}
-use Rattle.spv_meaning.specs.Constants.{Table, Meaning, IsConstant}
+use Rattle.spv_meaning.specs.Constants.{Table}
 use Rattle.spv_meaning.specs.Parts.{packed_part}
 use Rattle.spv_meaning.specs.Types.{DataType, Void, Boolean, Integer, Vector, Array, RuntimeArray, Struct, Members, cells}
 use Rattle.spv_folding.specs.Folding.{member_types, AreSized}
-use Rattle.spv_folding.proofs.Extraction.{extract_here, extract_member, extract_element, extract_past, extract_component, extract_zeros, type_here, type_in_member, type_in_element, type_in_component}
+use Rattle.spv_folding.proofs.Extraction.{extract_member, extract_component, extract_zeros, type_here, type_in_member, type_in_element, type_in_component}
 use Rattle.spv_types.specs.Extracting.{LeadsTo, IsPart, ArePartsOf}
 use Rattle.spv_types.specs.Meanings.{joined, words_numbered, words_in_entry}
 

@@ -1,10 +1,10 @@
 -- What OpSpecConstantOp makes of the words behind the opcode of its operation.
-use Rattle.std.specs.Prelude.{◌≡◌, ℕ, ◌≤◌, List, [], ◌∷◌, ◌++◌, length, map, take, drop, slice_index, slice_set, Option, Some}
+use Rattle.std.specs.Prelude.{◌≡◌, ℕ, ◌≤◌, List, [], ◌∷◌, ◌++◌, length, map, take, drop, slice_index, slice_set, Some}
 use Rattle.spv_value.specs.declared.words.Operand.{Operand}
 use Rattle.spv_value.specs.Words.{words_of}
 use Rattle.spv_meaning.specs.Computations as computes
 use Rattle.spv_meaning.specs.Computations.{Computation, computed, shuffled, extracted, whole_part}
-use Rattle.spv_meaning.specs.Constants.{Table, Meaning, IsConstant, meaning, typed_at}
+use Rattle.spv_meaning.specs.Constants.{Table, IsConstant, meaning, typed_at}
 use Rattle.spv_meaning.specs.Types.{DataType}
 use Rattle.spv_typing.specs.declared.operations.Form.{Form}
 use Rattle.spv_typing.specs.declared.operations.Form.TheVariants.{Shuffles, Extracts, Inserts}

@@ -1,8 +1,7 @@
 -- What is known in front of a constant's declaration, and what is kept of the constant.
-use Rattle.std.specs.Prelude.{◌≡◌, ℕ, ◌<◌, ◌==◌, ◌&&◌, Bool, true, false, List, [], ◌∷◌, ◌++◌, length, nat_eq, slice_get, slice_index, Option, Some, None}
+use Rattle.std.specs.Prelude.{◌≡◌, ℕ, ◌<◌, Bool, true, false, List, [], ◌∷◌, ◌++◌, length, nat_eq, slice_get, slice_index, Option, Some, None}
 use Rattle.std.specs.Map.{lookup}
-use Rattle.spv_opcodes.specs.declared.op.TheConstants as op
-use Rattle.spv_module.specs.Instruction.{Instruction, opcode}
+use Rattle.spv_module.specs.Instruction.{Instruction}
 use Rattle.spv_value.specs.Eval.{AreBooleanWords}
 use Rattle.spv_meaning.specs.Constants.{Table, Meaning, IsConstant, meaning, words_at, typed_at}
 use Rattle.spv_meaning.specs.Types.{DataType}

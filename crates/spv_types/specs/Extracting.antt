@@ -2,7 +2,7 @@
 use Rattle.std.specs.Prelude.{◌≡◌, ℕ, ◌<◌, ◌≤◌, List, [], ◌∷◌, length, replicate, slice_get, slice_index, Option, Some, None, Result, Ok, Err}
 use Rattle.spv_value.specs.declared.words.Operand.{Operand}
 use Rattle.spv_value.specs.Words.{words_of}
-use Rattle.spv_meaning.specs.Constants.{Table, Meaning, IsConstant}
+use Rattle.spv_meaning.specs.Constants.{Table, IsConstant}
 use Rattle.spv_meaning.specs.Types.{DataType, Vector, Array, Struct, cells}
 use Rattle.spv_folding.specs.Folding.{member_types}
 use Rattle.spv_types.specs.declared.meaning.Constant.{Constant}
@@ -48,7 +48,7 @@ HasNumbers v numbers = ⊥
 pub record AreComposed (table : Table) (entries : List (ℕ × Kept)) : Type 0 where
   pub sized : (n id : ℕ) (t : DataType) (words : List ℕ) → slice_get table n ≡ Some (id, IsConstant t words) → length words ≡ cells t
   pub parts : (n id : ℕ) (t : DataType) (words : List ℕ) (c : Constant) (numbers : List ℕ) → slice_get table n ≡ Some (id, IsConstant t words) → constant_of_kept (second (slice_get entries n)) ≡ Some c →
-    HasNumbers c.value numbers → ArePartsOf table (part_types t) numbers
+      HasNumbers c.value numbers → ArePartsOf table (part_types t) numbers
 
 -- one literal into a value: the number of a part, or the words of a result of so many words
 abbrev pub IsValueStep : Value → (index count : ℕ) → Result ℕ Operand → Type 0

@@ -38,17 +38,21 @@ fn step_into(constant: Option<&Constant>, index: u32, count: u32) -> Result<usiz
     ensures { IsStep (option_copied constant.entry) index count result }
 {
     match constant {
-        Some(Constant {
-            value: Value::Parts(numbers),
-            ..
-        }) => match numbers.get(index as usize) {
+        Some(
+            Constant {
+                value: Value::Parts(numbers),
+                ..
+            },
+        ) => match numbers.get(index as usize) {
             Some(part) => Ok(*part as usize),
             None => Err(small_zeros(count)),
         },
-        Some(Constant {
-            value: Value::Small(vector),
-            ..
-        }) => Err(of_word(component(vector, index as usize))),
+        Some(
+            Constant {
+                value: Value::Small(vector),
+                ..
+            },
+        ) => Err(of_word(component(vector, index as usize))),
         _ => Err(small_zeros(count)),
     }
 }
@@ -57,10 +61,12 @@ fn operand_in(constant: Option<&Constant>) -> Operand
     ensures { IsOperandOf (option_copied constant.entry) result }
 {
     match constant {
-        Some(Constant {
-            value: Value::Small(operand),
-            ..
-        }) => *operand,
+        Some(
+            Constant {
+                value: Value::Small(operand),
+                ..
+            },
+        ) => *operand,
         _ => zeros(0),
     }
 }

@@ -1,4 +1,4 @@
-use Rattle.std.proofs.Common.{subst, sym, Option, Result, Ok, Err, ℕ, arith, ◌≤◌, ◌<◌, slice_index}
+use Rattle.std.proofs.Common.{subst, Option, Ok, Err, slice_index}
 use Rattle.spv_types.specs.declared.meaning.Constant.{Constant}
 use Rattle.spv_types.specs.Declaring.{IsOperandOf}
 use Rattle.spv_types.specs.Extracting.{IsStep}
