@@ -62,7 +62,8 @@ pub fn cells_of(meanings: &Meanings, id: u32) -> Option<u64>
     cells_in(constant_of(meanings, id))
 }
 
-fn operand_in(constant: Option<&Constant>) -> Operand
+/// The words of a scalar or a vector; none of anything else.
+pub fn operand_in(constant: Option<&Constant>) -> Operand
     ensures { IsOperandOf (option_copied constant.entry) result }
 {
     match constant {

@@ -7,10 +7,9 @@ ghost use Rattle.spv_meaning.specs.Constants.{Table};
 ghost use Rattle.spv_meaning.specs.Parts.{packed_part};
 ghost use Rattle.spv_meaning.specs.Types.{DataType, cells};
 ghost use Rattle.spv_types.specs.Meanings.{StandFor, constant_of_kept, second, words_numbered, is_small};
-ghost use Rattle.spv_types.specs.Declaring.{IsOperandOf};
 ghost use Rattle.spv_types.specs.Extracting.{LeadsTo, IsPart, AreComposed, IsStep};
 
-use crate::constants::constant_in;
+use crate::constants::{constant_in, operand_in};
 use crate::meaning::{Constant, Value};
 use crate::meanings::Meanings;
 use spv_folding::{component, of_word, zeros};
@@ -54,20 +53,6 @@ fn step_into(constant: Option<&Constant>, index: u32, count: u32) -> Result<usiz
             },
         ) => Err(of_word(component(vector, index as usize))),
         _ => Err(small_zeros(count)),
-    }
-}
-
-fn operand_in(constant: Option<&Constant>) -> Operand
-    ensures { IsOperandOf (option_copied constant.entry) result }
-{
-    match constant {
-        Some(
-            Constant {
-                value: Value::Small(operand),
-                ..
-            },
-        ) => *operand,
-        _ => zeros(0),
     }
 }
 
