@@ -24,3 +24,4 @@ pub mod Tests
 pub mod EarlyRules
 pub mod Entries
 pub mod OneMore
+pub mod AllRead
