@@ -24,7 +24,7 @@ use Rattle.spv_types.specs.declared.meaning.Constant.{Constant}
 use Rattle.spv_types.specs.declared.meaning.Kept.{Kept}
 use Rattle.spv_types.specs.declared.meaning.Value.TheVariants.{Small}
 use Rattle.spv_types.specs.Facts.{in_64_bits}
-use Rattle.spv_types.specs.Meanings.{IsValue, is_small, joined, words_numbered, AllBelow}
+use Rattle.spv_types.specs.Meanings.{IsValue, is_small, joined, words_numbered}
 use Rattle.spv_types.specs.Declaring.{AreSound, AreScalars, HasWords, IsReady}
 use Rattle.spv_types.specs.Extracting.{HasNumbers}
 use Rattle.spv_types.proofs.Room.{in_64_bits-fits}

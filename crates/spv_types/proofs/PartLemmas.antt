@@ -4,11 +4,11 @@ use Rattle.std.specs.List.{list_all}
 use Rattle.std.proofs.lemmas.List.{append-nil}
 use Rattle.std.proofs.lemmas.Bool.{eqb-true, and_parts}
 use Rattle.spv_module.specs.Instruction.{Instruction}
-use Rattle.spv_meaning.specs.Constants.{Table, Meaning, IsConstant, meaning, type_in, type_at, length_at, words_in, words_at, composed, members_of}
-use Rattle.spv_meaning.specs.Types.{DataType, Struct}
+use Rattle.spv_meaning.specs.Constants.{Table, Meaning, IsConstant, type_in, type_at, length_at, words_at, composed}
+use Rattle.spv_meaning.specs.Types.{DataType}
 use Rattle.spv_folding.proofs.Composites.{member_types-members_of}
 use Rattle.spv_ids.specs.Ids.{is_defined_before}
-use Rattle.spv_typing.specs.Kinds.{is_one_of, is_vector, is_array, is_struct, is_constant, has_type, type_of, component, component_count, element, length_id, members}
+use Rattle.spv_typing.specs.Kinds.{is_one_of, is_vector, is_array, is_struct, is_constant, has_type, type_of, element, length_id, members}
 use Rattle.spv_declarations.specs.Constants.{composite_fits, has_length, are_of}
 use Rattle.spv_declarations.specs.Declarations.{says, declared_before}
 use Rattle.spv_declarations.specs.Sound.{IsBefore, table_before, IsSoundType}

@@ -13,10 +13,10 @@ ghost use Rattle.spv_types.specs.Facts.{in_64_bits};
 ghost use Rattle.spv_types.specs.Meanings.{StandFor, AllBelow, joined, is_small};
 ghost use Rattle.spv_types.specs.Declaring.{AreScalars, HasParts, AddsNumber, HasConstituents, HasWords, IsReady};
 
-use crate::operands::{cells_of, number_of, operand_of};
 use crate::facts::plus;
 use crate::meaning::{Constant, Value};
 use crate::meanings::Meanings;
+use crate::operands::{cells_of, number_of, operand_of};
 use spv_base::NoMemory;
 use spv_folding::{component, with_component, zeros};
 use spv_typing::Kinds;
