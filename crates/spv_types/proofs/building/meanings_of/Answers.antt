@@ -1,11 +1,16 @@
 use Rattle.std.proofs.Common.{ℕ, List, Err, ◌≡◌, sym, ap, subst, ◌∙◌, arith}
 use Rattle.std.proofs.lemmas.Result.{err_from_is_err_and}
+use Rattle.std.specs.Global.{Global}
+use Rattle.std.specs.declared.hash.DefaultHasher.{DefaultHasher}
+use Rattle.indexmap.specs.declared.map.IndexMap.{IndexMap}
 use Rattle.spv_module.specs.First.{first}
 use Rattle.spv_module.specs.Instruction.{Instruction}
 use Rattle.spv_module.specs.View.{seen}
 use Rattle.spv_repeats.specs.Repeats.{occurs_before, repeats_before}
 use Rattle.spv_repeats.specs.Marks.{AreMarks}
 use Rattle.spv_declarations.specs.Broken.{group_3}
+use Rattle.spv_seed.specs.declared.Seed.{Seed}
+use Rattle.spv_types.specs.declared.meaning.Kept.{Kept}
 use Rattle.spv_types.specs.declared.rules.Standing.{Standing}
 use Rattle.spv_types.specs.Entries.{IsReading, Reads}
 use Rattle.spv_types.specs.Whole.{Finds, HasMeanings}
@@ -31,8 +36,8 @@ returns-in_err-read c =
     let reads =
     subst (λ (insts : List Instruction). Reads insts c.instructions.k i c.read.new.meanings.entries c.read.result) c.requires.kinds
     (c.read.ensures c.instructions.k (subst (λ (insts : List Instruction). IsReading insts c.instructions.k i standing c.instructions.meanings.entries) (sym c.requires.kinds) reading)) in
-    subst (λ r. Finds (first (group_3 insts)) _ r) (sym (fault.1 ∙ ap Err fault.2))
-    (read-stops _ insts c.instructions.k i c.instructions.begun c.instructions.meanings.entries c.read.new.meanings.entries c.in_err-read.field-0.0
+    subst (λ r. Finds (first (group_3 insts)) (λ (meanings : IndexMap ℕ Kept Seed Global DefaultHasher). HasMeanings insts insts meanings.entries) r) (sym (fault.1 ∙ ap Err fault.2))
+    (read-stops (λ (meanings : IndexMap ℕ Kept Seed Global DefaultHasher). HasMeanings insts insts meanings.entries) insts c.instructions.k i c.instructions.begun c.instructions.meanings.entries c.read.new.meanings.entries c.in_err-read.field-0.0
       c.instructions.invariant c.at-inst.ensures (subst (Reads insts c.instructions.k i c.read.new.meanings.entries) c.in_err-read.was reads))
 
 pub instructions-preserved : goal.instructions-preserved
