@@ -26,3 +26,7 @@ failing-next tests k passed below e =
 
 pub failing-none : (tests : List (Bool × ℕ)) (k : ℕ) → ArePassed tests k → length tests ≤ k → None ≡ first_failing tests
 failing-none tests k passed past = sym (passed ∙ ap first_failing (drop_of_length-le tests past))
+
+-- one test and then others
+pub failing-same : (b c : Bool) (rule : ℕ) (rest others : Option ℕ) → b ≡ c → rest ≡ others → cond b rest (Some rule) ≡ cond c others (Some rule)
+failing-same b c rule rest others e f = rw (e, f) refl
