@@ -1,22 +1,18 @@
 -- Which instructions give an id a meaning, and what meanings: row by row of what instructions say.
-use Rattle.std.proofs.Common.{◌≡◌, ℕ, zero, suc, ◌⊎◌, inl, inr, Bool, true, false, cond, not, ◌==◌, ◌&&◌, ◌||◌, List, [], ◌∷◌, ◌++◌, length, take, drop, get_or, map, Option, Some, None, refl, sym, ap, subst, ◌∙◌, arith}
+use Rattle.std.proofs.Common.{rules, ◌≡◌, ℕ, ◌⊎◌, inl, inr, Bool, true, false, cond, ◌==◌, ◌||◌, List, [], ◌∷◌, ◌++◌, take, drop, Option, Some, None, refl, sym, ap, subst, ◌∙◌}
 use Rattle.std.specs.Prelude.{nat_eq}
 use Rattle.std.specs.Option.{option_map}
-use Rattle.std.specs.List.{list_any, slice_index}
+use Rattle.std.specs.List.{slice_index}
 use Rattle.std.specs.Map.{lookup}
 use Rattle.std.proofs.lemmas.Bool.{eqb-true}
 use Rattle.spv_opcodes.specs.declared.op.TheConstants as op
-use Rattle.spv_opcodes.specs.declared.execution_mode.TheConstants as execution_mode
-use Rattle.spv_opcodes.specs.declared.storage_class.TheConstants as storage_class
-use Rattle.spv_grammar.specs.Table.{Shape, row_of}
-use Rattle.spv_grammar.specs.Operands.{opcode_of}
+use Rattle.spv_grammar.specs.Table.{row_of}
 use Rattle.spv_grammar.specs.Roles.{is_defined_id}
 use Rattle.spv_module.specs.Instruction.{Instruction, IsInstruction, opcode, roles, word_with}
 use Rattle.spv_meaning.specs.Statements as says
 use Rattle.spv_meaning.specs.Statements.{Statement, Rows, said, by_row, rows, module_rows, type_rows, constant_rows, flow_rows, memory_rows, operation_rows, atomic, evaluated, operation_on_all, of_constants, spec_constant_op, is_silent_opcode, mode, mode_by_ids}
-use Rattle.spv_meaning.specs.Computations.{Computation, Evaluates}
 use Rattle.spv_meaning.specs.Types as types
-use Rattle.spv_meaning.specs.Constants.{Table, Meaning, IsType, IsPointer, IsConstant, IsVariable, defined, initial, variable, pointer_at}
+use Rattle.spv_meaning.specs.Constants.{Table, Meaning, IsType, IsPointer, IsConstant, IsVariable, defined, initial}
 use Rattle.spv_typing.specs.Kinds.{is_one_of, data_types, constants}
 use Rattle.spv_declarations.specs.Declarations.{entry, entry_of}
 use Rattle.spv_declarations.proofs.Parts.{first_plain, first_typed, row_test, defined-plain, defined-typed}
@@ -31,20 +27,17 @@ pub rows-append : (P : ℕ → (List ℕ → Statement) → Type 0) (xs ys : Row
 rows-append P [] ys h k = k
 rows-append P (row ∷ rest) ys h k = (h.0, rows-append P rest ys h.1 k)
 
-found_row : (P : ℕ → (List ℕ → Statement) → Type 0) (o : ℕ) (row : ℕ × (List ℕ → Statement)) (others : Option (List ℕ → Statement)) (b : Bool) → (nat_eq o row.0) ≡ b → P row.0 row.1 → P o (by_row others) →
+found_row : (P : ℕ → (List ℕ → Statement) → Type 0) (o : ℕ) (row : ℕ × (List ℕ → Statement)) (others : Option (List ℕ → Statement)) (b : Bool) →
+    (nat_eq o row.0) ≡ b → P row.0 row.1 → P o (by_row others) →
     P o (by_row (cond b (Some row.1) others))
 found_row P o row others true e h k = subst (λ (n : ℕ). P n row.1) (sym (eqb-true o row.0 e)) h
 found_row P o row others false e h k = k
 
 -- what holds of each row holds of the one that is found, if it holds where none is
-pub row_holds : (P : ℕ → (List ℕ → Statement) → Type 0) (o : ℕ) (rest : Rows) → P o (by_row None) → AllRows P rest → P o (by_row (lookup (nat_eq o) rest))
+pub row_holds : (P : ℕ → (List ℕ → Statement) → Type 0) (o : ℕ) (rest : Rows) → P o (by_row None) → AllRows P rest →
+    P o (by_row (lookup (nat_eq o) rest))
 row_holds P o [] none h = none
 row_holds P o (row ∷ rest) none h = found_row P o row (lookup (nat_eq o) rest) (nat_eq o row.0) refl h.0 (row_holds P o rest none h.1)
-
--- rows made alike
-pub rows-map : (P : ℕ → (List ℕ → Statement) → Type 0) (f : ℕ → ℕ × (List ℕ → Statement)) (os : List ℕ) → ((o : ℕ) → P (f o).0 (f o).1) → AllRows P (map f os)
-rows-map P f [] h = tt
-rows-map P f (o ∷ os) h = (h o, rows-map P f os h)
 
 -- ---- what a row makes of the result
 
@@ -61,7 +54,8 @@ pub record Gives (o : ℕ) (ws : List ℕ) (r : ℕ) (m : Meaning) : Type 0 wher
   pub result : ((r ≡ slice_index ws 0) × (row_test first_plain (row_of o) ≡ true)) ⊎ ((r ≡ slice_index ws 1) × (row_test first_typed (row_of o) ≡ true))
 
 abbrev pub GivesIts : ℕ → (List ℕ → Statement) → Type 0
-GivesIts o row = (ws : List ℕ) (all : List Statement) (table : Table) (r : ℕ) (m : Meaning) → defined all [] table (row ws) ≡ Some (r, m) → Gives o ws r m
+GivesIts o row =
+    (ws : List ℕ) (all : List Statement) (table : Table) (r : ℕ) (m : Meaning) → defined all [] table (row ws) ≡ Some (r, m) → Gives o ws r m
 
 abbrev stands : ℕ → Meaning → Option (ℕ × Meaning)
 stands r m = Some (r, m)
@@ -70,47 +64,32 @@ abbrev entry_in : Option (ℕ × Meaning) → ℕ × Meaning
 entry_in None = (0, IsConstant types.Void [])
 entry_in (Some e) = e
 
-plain : (o : ℕ) (ws : List ℕ) (m : Meaning) (r : ℕ) (n : Meaning) → suits_meaning o m ≡ true → row_test first_plain (row_of o) ≡ true → stands (slice_index ws 0) m ≡ stands r n → Gives o ws r n
+plain : (o : ℕ) (ws : List ℕ) (m : Meaning) (r : ℕ) (n : Meaning) → suits_meaning o m ≡ true → row_test first_plain (row_of o) ≡ true →
+    stands (slice_index ws 0) m ≡ stands r n → Gives o ws r n
 plain o ws m r n suits first e =
     let same = ap entry_in e in
     record { suits = subst (λ (p : ℕ × Meaning). suits_meaning o p.1 ≡ true) same suits; result = inl (sym (ap (λ (p : ℕ × Meaning). p.0) same), first) }
 
-typed : (o : ℕ) (ws : List ℕ) (m : Meaning) (r : ℕ) (n : Meaning) → suits_meaning o m ≡ true → row_test first_typed (row_of o) ≡ true → stands (slice_index ws 1) m ≡ stands r n → Gives o ws r n
+typed : (o : ℕ) (ws : List ℕ) (m : Meaning) (r : ℕ) (n : Meaning) → suits_meaning o m ≡ true → row_test first_typed (row_of o) ≡ true →
+    stands (slice_index ws 1) m ≡ stands r n → Gives o ws r n
 typed o ws m r n suits first e =
     let same = ap entry_in e in
     record { suits = subst (λ (p : ℕ × Meaning). suits_meaning o p.1 ≡ true) same suits; result = inr (sym (ap (λ (p : ℕ × Meaning). p.0) same), first) }
 
 pub types_give : AllRows GivesIts type_rows
 unfolding row_of
-types_give =
-    (λ ws all table r m e. plain op.TYPE_BOOL ws _ r m refl refl e,
-    (λ ws all table r m e. plain op.TYPE_INT ws _ r m refl refl e,
-    (λ ws all table r m e. plain op.TYPE_VECTOR ws _ r m refl refl e,
-    (λ ws all table r m e. plain op.TYPE_ARRAY ws _ r m refl refl e,
-    (λ ws all table r m e. plain op.TYPE_RUNTIME_ARRAY ws _ r m refl refl e,
-    (λ ws all table r m e. plain op.TYPE_STRUCT ws _ r m refl refl e,
-    (λ ws all table r m e. plain op.TYPE_POINTER ws _ r m refl refl e, tt)))))))
+types_give = search (rules, plain)
 
 variable_gives : (target : types.DataType) (local : Bool) (ws : List ℕ) (table : Table) (r : ℕ) (m : Meaning) →
     option_map (λ m. (slice_index ws 1, m)) (cond local None (Some (IsVariable (slice_index ws 2) target (initial table target (drop 3 ws))))) ≡ stands r m → Gives op.VARIABLE ws r m
 unfolding row_of
 variable_gives target true ws table r m e = cc
-variable_gives target false ws table r m e = typed op.VARIABLE ws (IsVariable (slice_index ws 2) target (initial table target (drop 3 ws))) r m refl refl e
+variable_gives target false ws table r m e =
+    typed op.VARIABLE ws (IsVariable (slice_index ws 2) target (initial table target (drop 3 ws))) r m refl refl e
 
 pub constants_give : AllRows GivesIts constant_rows
 unfolding row_of
-constants_give =
-    (λ ws all table r m e. typed op.CONSTANT_TRUE ws _ r m refl refl e,
-    (λ ws all table r m e. typed op.CONSTANT_FALSE ws _ r m refl refl e,
-    (λ ws all table r m e. typed op.CONSTANT ws _ r m refl refl e,
-    (λ ws all table r m e. typed op.CONSTANT_COMPOSITE ws _ r m refl refl e,
-    (λ ws all table r m e. typed op.CONSTANT_NULL ws _ r m refl refl e,
-    (λ ws all table r m e. typed op.SPEC_CONSTANT_TRUE ws _ r m refl refl e,
-    (λ ws all table r m e. typed op.SPEC_CONSTANT_FALSE ws _ r m refl refl e,
-    (λ ws all table r m e. typed op.SPEC_CONSTANT ws _ r m refl refl e,
-    (λ ws all table r m e. typed op.SPEC_CONSTANT_COMPOSITE ws _ r m refl refl e,
-    (λ ws all table r m e. typed op.UNDEF ws _ r m refl refl e,
-    (λ ws all table r m e. variable_gives (pointer_at table (slice_index ws 0)).1 (slice_index ws 2 == storage_class.FUNCTION) ws table r m e, tt)))))))))))
+constants_give = search (rules, typed, variable_gives)
 
 -- a row that gives no id a meaning
 abbrev IsSilent : ℕ → (List ℕ → Statement) → Type 0
@@ -121,39 +100,27 @@ none_stands o ws found r m e f = cc
 
 silent_give : (given : Rows) → AllRows IsSilent given → AllRows GivesIts given
 silent_give [] h = tt
-silent_give (row ∷ rest) h = (λ ws all table r m e. none_stands row.0 ws (defined all [] table (row.1 ws)) r m (h.0 ws all table) e, silent_give rest h.1)
+silent_give (row ∷ rest) h =
+    (λ ws all table r m e. none_stands row.0 ws (defined all [] table (row.1 ws)) r m (h.0 ws all table) e, silent_give rest h.1)
 
-mode_silent : (all : List Statement) (table : Table) (b : Bool) (function : ℕ) (literals : List ℕ) → defined all [] table (cond b (says.LocalSize function literals) says.Unknown) ≡ None
+mode_silent : (all : List Statement) (table : Table) (b : Bool) (function : ℕ) (literals : List ℕ) →
+    defined all [] table (cond b (says.LocalSize function literals) says.Unknown) ≡ None
 mode_silent all table true function literals = refl
 mode_silent all table false function literals = refl
 
-mode_by_ids_silent : (all : List Statement) (table : Table) (b : Bool) (function : ℕ) (literals : List ℕ) → defined all [] table (cond b (says.LocalSizeId function literals) says.Unknown) ≡ None
+mode_by_ids_silent : (all : List Statement) (table : Table) (b : Bool) (function : ℕ) (literals : List ℕ) →
+    defined all [] table (cond b (says.LocalSizeId function literals) says.Unknown) ≡ None
 mode_by_ids_silent all table true function literals = refl
 mode_by_ids_silent all table false function literals = refl
 
 module_silent : AllRows IsSilent module_rows
-module_silent =
-    (λ ws all table. refl,
-    (λ ws all table. mode_silent all table (slice_index ws 1 == execution_mode.LOCAL_SIZE) (slice_index ws 0) (drop 2 ws),
-    (λ ws all table. mode_by_ids_silent all table (slice_index ws 1 == execution_mode.LOCAL_SIZE_ID) (slice_index ws 0) (drop 2 ws),
-    (λ ws all table. refl,
-    (λ ws all table. refl, tt)))))
+module_silent = search (rules, mode_silent, mode_by_ids_silent)
 
 flow_silent : AllRows IsSilent flow_rows
-flow_silent =
-    (λ ws all table. refl, (λ ws all table. refl, (λ ws all table. refl, (λ ws all table. refl,
-    (λ ws all table. refl, (λ ws all table. refl, (λ ws all table. refl, (λ ws all table. refl,
-    (λ ws all table. refl, (λ ws all table. refl, (λ ws all table. refl, (λ ws all table. refl,
-    (λ ws all table. refl, (λ ws all table. refl, tt))))))))))))))
+flow_silent = search rules
 
 memory_silent : AllRows IsSilent memory_rows
-memory_silent =
-    (λ ws all table. refl, (λ ws all table. refl, (λ ws all table. refl, (λ ws all table. refl,
-    (λ ws all table. refl, (λ ws all table. refl, (λ ws all table. refl, (λ ws all table. refl,
-    (λ ws all table. refl, rows-map IsSilent atomic
-        (op.ATOMIC_LOAD ∷ op.ATOMIC_EXCHANGE ∷ op.ATOMIC_I_INCREMENT ∷ op.ATOMIC_I_DECREMENT ∷ op.ATOMIC_I_ADD ∷ op.ATOMIC_I_SUB ∷ op.ATOMIC_S_MIN ∷ op.ATOMIC_U_MIN
-        ∷ op.ATOMIC_S_MAX ∷ op.ATOMIC_U_MAX ∷ op.ATOMIC_AND ∷ op.ATOMIC_OR ∷ op.ATOMIC_XOR ∷ [])
-        (λ o ws all table. refl))))))))))
+memory_silent = search rules
 
 -- ---- operations
 
@@ -165,27 +132,11 @@ StandsBehind ws other = Unit {0}
 abbrev pub Operates : ℕ → (List ℕ → Statement) → Type 0
 Operates o row = (ws : List ℕ) → StandsBehind ws (row ws)
 
-abbrev evaluated_opcodes : List ℕ
-evaluated_opcodes =
-    op.BITCAST ∷ op.S_NEGATE ∷ op.ANY ∷ op.ALL ∷ op.LOGICAL_NOT ∷ op.NOT ∷ op.BIT_REVERSE ∷ op.BIT_COUNT
-    ∷ op.I_ADD ∷ op.I_SUB ∷ op.I_MUL ∷ op.U_DIV ∷ op.S_DIV ∷ op.U_MOD ∷ op.S_REM ∷ op.S_MOD
-    ∷ op.I_ADD_CARRY ∷ op.I_SUB_BORROW ∷ op.U_MUL_EXTENDED ∷ op.S_MUL_EXTENDED
-    ∷ op.LOGICAL_EQUAL ∷ op.LOGICAL_NOT_EQUAL ∷ op.LOGICAL_OR ∷ op.LOGICAL_AND
-    ∷ op.I_EQUAL ∷ op.I_NOT_EQUAL ∷ op.U_GREATER_THAN ∷ op.S_GREATER_THAN ∷ op.U_GREATER_THAN_EQUAL ∷ op.S_GREATER_THAN_EQUAL
-    ∷ op.U_LESS_THAN ∷ op.S_LESS_THAN ∷ op.U_LESS_THAN_EQUAL ∷ op.S_LESS_THAN_EQUAL
-    ∷ op.SHIFT_RIGHT_LOGICAL ∷ op.SHIFT_RIGHT_ARITHMETIC ∷ op.SHIFT_LEFT_LOGICAL ∷ op.BITWISE_OR ∷ op.BITWISE_XOR ∷ op.BITWISE_AND
-    ∷ op.SELECT ∷ op.BIT_FIELD_INSERT ∷ op.BIT_FIELD_S_EXTRACT ∷ op.BIT_FIELD_U_EXTRACT ∷ []
-
 pub operations_operate : AllRows Operates operation_rows
-operations_operate =
-    (λ ws. (refl, refl), (λ ws. (refl, refl), (λ ws. (refl, refl), (λ ws. (refl, refl), (λ ws. (refl, refl), (λ ws. (refl, refl), (λ ws. (refl, refl),
-    (λ ws. tt, (λ ws. (refl, refl), rows-map Operates evaluated evaluated_opcodes (λ o ws. (refl, refl)))))))))))
+operations_operate = search rules
 
 operations_silent : AllRows IsSilent operation_rows
-operations_silent =
-    (λ ws all table. refl, (λ ws all table. refl, (λ ws all table. refl, (λ ws all table. refl,
-    (λ ws all table. refl, (λ ws all table. refl, (λ ws all table. refl, (λ ws all table. refl,
-    (λ ws all table. refl, rows-map IsSilent evaluated evaluated_opcodes (λ o ws all table. refl))))))))))
+operations_silent = search rules
 
 -- the words without the inner opcode
 second_of : (ws : List ℕ) → slice_index (take 2 ws ++ drop 3 ws) 1 ≡ slice_index ws 1
@@ -193,7 +144,8 @@ second_of [] = refl
 second_of (x ∷ []) = refl
 second_of (x ∷ y ∷ ws) = refl
 
-of_constants_gives : (ws inner : List ℕ) (st : Statement) → slice_index inner 1 ≡ slice_index ws 1 → StandsBehind inner st → (all : List Statement) (table : Table) (r : ℕ) (m : Meaning) →
+of_constants_gives : (ws inner : List ℕ) (st : Statement) → slice_index inner 1 ≡ slice_index ws 1 → StandsBehind inner st →
+    (all : List Statement) (table : Table) (r : ℕ) (m : Meaning) →
     defined all [] table (of_constants st) ≡ stands r m → Gives op.SPEC_CONSTANT_OP ws r m
 unfolding row_of
 of_constants_gives ws inner (says.Operation computation t q operands) second behind all table r m e =
@@ -212,12 +164,15 @@ spec_op_gives ws all table r m e =
 
 pub rows_give : AllRows GivesIts rows
 rows_give =
-    rows-append GivesIts module_rows (type_rows ++ (constant_rows ++ ((op.SPEC_CONSTANT_OP, spec_constant_op) ∷ (flow_rows ++ (memory_rows ++ operation_rows))))) (silent_give module_rows module_silent)
+    rows-append GivesIts module_rows
+    (type_rows ++ (constant_rows ++ ((op.SPEC_CONSTANT_OP, spec_constant_op) ∷ (flow_rows ++ (memory_rows ++ operation_rows)))))
+    (silent_give module_rows module_silent)
     (rows-append GivesIts type_rows (constant_rows ++ ((op.SPEC_CONSTANT_OP, spec_constant_op) ∷ (flow_rows ++ (memory_rows ++ operation_rows)))) types_give
-    (rows-append GivesIts constant_rows ((op.SPEC_CONSTANT_OP, spec_constant_op) ∷ (flow_rows ++ (memory_rows ++ operation_rows))) constants_give
-    (spec_op_gives,
-    rows-append GivesIts flow_rows (memory_rows ++ operation_rows) (silent_give flow_rows flow_silent)
-    (rows-append GivesIts memory_rows operation_rows (silent_give memory_rows memory_silent) (silent_give operation_rows operations_silent)))))
+    (rows-append GivesIts constant_rows ((op.SPEC_CONSTANT_OP, spec_constant_op) ∷ (flow_rows ++ (memory_rows ++ operation_rows))) constants_give (
+      spec_op_gives,
+      rows-append GivesIts flow_rows (memory_rows ++ operation_rows) (silent_give flow_rows flow_silent)
+          (rows-append GivesIts memory_rows operation_rows (silent_give memory_rows memory_silent) (silent_give operation_rows operations_silent)),
+    )))
 
 -- ---- an instruction
 
@@ -229,7 +184,8 @@ pub record GivesMeaning (i : Instruction) (r : ℕ) (m : Meaning) : Type 0 where
 gives_at : (o : ℕ) (ws : List ℕ) (silent : Bool) (all : List Statement) (table : Table) (r : ℕ) (m : Meaning) →
     entry_of all table (cond silent [] (by_row (lookup (nat_eq o) rows) ws ∷ [])) ≡ stands r m → Gives o ws r m × (silent ≡ false)
 gives_at o ws true all table r m e = cc
-gives_at o ws false all table r m e = (row_holds GivesIts o rows (λ ws all table r m e. none_stands o ws None r m refl e) rows_give ws all table r m e, refl)
+gives_at o ws false all table r m e =
+    (row_holds GivesIts o rows (λ ws all table r m e. none_stands o ws None r m refl e) rows_give ws all table r m e, refl)
 
 result_of : (i : Instruction) (r : ℕ) → IsInstruction i.words (roles i) →
     ((r ≡ slice_index (drop 1 i.words) 0) × (row_test first_plain (row_of (opcode i)) ≡ true)) ⊎ ((r ≡ slice_index (drop 1 i.words) 1) × (row_test first_typed (row_of (opcode i)) ≡ true)) →
@@ -238,17 +194,20 @@ result_of i r whole (inl h) = defined-plain i whole h.1 ∙ ap Some (sym h.0)
 result_of i r whole (inr h) = defined-typed i whole h.1 ∙ ap Some (sym h.0)
 
 -- what gets a meaning is what the instruction defines
-pub entry-gives : (all : List Statement) (table : Table) (i : Instruction) (r : ℕ) (m : Meaning) → IsInstruction i.words (roles i) → entry all table i ≡ Some (r, m) → GivesMeaning i r m
+pub entry-gives : (all : List Statement) (table : Table) (i : Instruction) (r : ℕ) (m : Meaning) → IsInstruction i.words (roles i) →
+    entry all table i ≡ Some (r, m) → GivesMeaning i r m
 entry-gives all table i r m whole e =
     let given = gives_at (opcode i) (drop 1 i.words) (is_silent_opcode (opcode i)) all table r m e in
     record { suits = given.0.suits; result = result_of i r whole given.0.result; loud = given.1 }
 
-entry_loud : (all : List Statement) (table : Table) (st : Statement) (silent : Bool) → silent ≡ false → entry_of all table (cond silent [] (st ∷ [])) ≡ defined all [] table st
+entry_loud : (all : List Statement) (table : Table) (st : Statement) (silent : Bool) → silent ≡ false →
+    entry_of all table (cond silent [] (st ∷ [])) ≡ defined all [] table st
 entry_loud all table st true h = cc
 entry_loud all table st false h = refl
 
 -- the meaning, by the row of the opcode
-pub entry-by : (all : List Statement) (table : Table) (i : Instruction) (o : ℕ) → opcode i ≡ o → is_silent_opcode o ≡ false → entry all table i ≡ defined all [] table (by_row (lookup (nat_eq o) rows) (drop 1 i.words))
+pub entry-by : (all : List Statement) (table : Table) (i : Instruction) (o : ℕ) → opcode i ≡ o → is_silent_opcode o ≡ false →
+    entry all table i ≡ defined all [] table (by_row (lookup (nat_eq o) rows) (drop 1 i.words))
 entry-by all table i o is_o loud =
     entry_loud all table (by_row (lookup (nat_eq (opcode i)) rows) (drop 1 i.words)) (is_silent_opcode (opcode i)) (ap is_silent_opcode is_o ∙ loud)
     ∙ ap (λ (n : ℕ). defined all [] table (by_row (lookup (nat_eq n) rows) (drop 1 i.words))) is_o

@@ -1,3 +1,4 @@
+pub mod FitParts
 pub mod Parts
 pub mod Defining
 pub mod Unbroken
@@ -10,3 +11,10 @@ pub mod Operations
 pub mod Declares
 pub mod Words
 pub mod SoundConstants
+pub mod SoundShapes
+pub mod PartWords
+pub mod EvaluatedWords
+pub mod OperationWords
+pub mod FittingWords
+pub mod Consequences
+pub mod Functions

@@ -1,18 +1,18 @@
 -- The words of a declaration and the part of each, by the row of its opcode.
-use Rattle.std.proofs.Common.{◌≡◌, ℕ, zero, suc, ◌+◌, ◌<◌, ◌≤◌, Bool, true, false, cond, not, ◌==◌, ◌&&◌, ◌||◌, nat_le, List, [], ◌∷◌, ◌++◌, length, take, drop, get_or, map, replicate, Option, Some, None, Result, Ok, Err, refl, sym, ap, subst, ◌∙◌, arith}
+use Rattle.std.proofs.Common.{◌≡◌, ℕ, suc, Bool, true, false, ◌==◌, nat_le, List, [], ◌∷◌, ◌++◌, length, drop, map, replicate, Option, Some, None, Result, Ok, Err, refl, sym, ap, subst, ◌∙◌, arith}
 use Rattle.std.specs.Option.{option_map, option_and_then}
-use Rattle.std.specs.List.{list_any, list_all, filter, zip, position, slice_get, slice_index}
+use Rattle.std.specs.List.{filter, zip, position, slice_get, slice_index}
 use Rattle.std.proofs.lemmas.Bool.Decides.{nat_tests}
 use Rattle.spv_grammar.specs.declared.kind.Role.{Role}
-use Rattle.spv_grammar.specs.declared.kind.Role.TheVariants.{Opcode, TypeId, DefinedId, UsedId, Literal, UnknownEnumerant}
+use Rattle.spv_grammar.specs.declared.kind.Role.TheVariants.{Opcode, TypeId, DefinedId, UsedId, Literal}
 use Rattle.spv_grammar.specs.declared.kind.Kind.{Kind}
-use Rattle.spv_grammar.specs.declared.kind.Kind.TheVariants.{ResultType, ResultId, Id, OptionalId, Ids, IdPairs, Number, SomeNumbers, Numbers, Weights, Cases, Text, OptionalText, SetName, One, MemoryOperands, Decoration, ExtInst}
+use Rattle.spv_grammar.specs.declared.kind.Kind.TheVariants.{ResultType, ResultId, Ids}
 use Rattle.spv_opcodes.specs.declared.op.TheConstants as op
 use Rattle.spv_grammar.specs.Table.{Shape, row_of}
-use Rattle.spv_grammar.specs.Operands.{Taken, one, all_if, taken, operand_roles, fitted, behind, row_roles, inner_roles, spec_constant_roles, body_roles, opcode_of, roles_of}
-use Rattle.spv_grammar.specs.Roles.{is_defined_id, is_used_id, is_type_id}
-use Rattle.spv_module.specs.Instruction.{Instruction, IsInstruction, opcode, roles, word_with, parts}
-use Rattle.spv_ids.specs.Ids.{words_with, used_ids, is_needed, defines}
+use Rattle.spv_grammar.specs.Operands.{one, all_if, operand_roles, fitted, behind, inner_roles, spec_constant_roles, body_roles, opcode_of, roles_of}
+use Rattle.spv_grammar.specs.Roles.{is_defined_id}
+use Rattle.spv_module.specs.Instruction.{Instruction, IsInstruction, opcode, roles, word_with}
+use Rattle.spv_ids.specs.Ids.{is_needed}
 use Rattle.spv_ids.proofs.Places.{position-cons}
 
 -- ---- words with their parts
@@ -27,7 +27,8 @@ pub record Front (role : Role) (kinds : List Kind) (ws : List ℕ) (rs : List Ro
   pub fit : operand_roles kinds rest ≡ Some others
 
 -- what stands behind, if there is anything
-rest_of : (role : Role) (kinds : List Kind) (w : ℕ) (ws : List ℕ) (behind : Option (List Role)) (rs : List Role) → operand_roles kinds ws ≡ behind → option_map (λ roles. role ∷ roles) behind ≡ Some rs → Front role kinds (w ∷ ws) rs
+rest_of : (role : Role) (kinds : List Kind) (w : ℕ) (ws : List ℕ) (behind : Option (List Role)) (rs : List Role) → operand_roles kinds ws ≡ behind →
+    option_map (λ roles. role ∷ roles) behind ≡ Some rs → Front role kinds (w ∷ ws) rs
 rest_of role kinds w ws None rs e h = cc
 rest_of role kinds w ws (Some others) rs e h = record { word = w; rest = ws; others = others; words_are = refl; parts_are = cc; fit = e }
 
@@ -68,15 +69,18 @@ pub fitted-some : (found : Option (List Role)) (rs : List Role) → fitted found
 fitted-some None rs h = cc
 fitted-some (Some found) rs h = cc
 
-behind-some : (front : List Role) (answer : Result (List Role) ℕ) (rs : List Role) → behind front answer ≡ Ok rs → (others : List Role) × (answer ≡ Ok others) × (rs ≡ front ++ others)
+behind-some : (front : List Role) (answer : Result (List Role) ℕ) (rs : List Role) → behind front answer ≡ Ok rs →
+    (others : List Role) × (answer ≡ Ok others) × (rs ≡ front ++ others)
 behind-some front (Err rule) rs h = cc
 behind-some front (Ok others) rs h = (others, refl, cc)
 
-row_body : (o : ℕ) (shape : Shape) (ws : List ℕ) → row_of o ≡ Some shape → (o == op.SPEC_CONSTANT_OP) ≡ false → body_roles o ws ≡ fitted (operand_roles shape.kinds ws)
+row_body : (o : ℕ) (shape : Shape) (ws : List ℕ) → row_of o ≡ Some shape → (o == op.SPEC_CONSTANT_OP) ≡ false →
+    body_roles o ws ≡ fitted (operand_roles shape.kinds ws)
 row_body o shape ws row other = rw (other, row) refl
 
 -- the words behind the first one, whose opcode is not OpSpecConstantOp
-pub row-words : (o : ℕ) (shape : Shape) (words : List ℕ) (rs : List Role) → row_of o ≡ Some shape → (o == op.SPEC_CONSTANT_OP) ≡ false → opcode_of (slice_index words 0) ≡ o → roles_of words ≡ Ok rs → Row o shape.kinds words rs
+pub row-words : (o : ℕ) (shape : Shape) (words : List ℕ) (rs : List Role) → row_of o ≡ Some shape → (o == op.SPEC_CONSTANT_OP) ≡ false →
+    opcode_of (slice_index words 0) ≡ o → roles_of words ≡ Ok rs → Row o shape.kinds words rs
 unfolding roles_of
 row-words o shape [] rs row other is_o h = cc
 row-words o shape (w ∷ ws) rs row other is_o h =
@@ -155,7 +159,8 @@ pub record TypedParts (kinds : List Kind) (words : List ℕ) (rs : List Role) : 
   pub fit : operand_roles kinds front.rest ≡ Some front.others
 
 pub plain-parts : (o : ℕ) (shape : Shape) (kinds : List Kind) (words : List ℕ) (rs : List Role) →
-    row_of o ≡ Some shape → shape.kinds ≡ ResultId ∷ kinds → (o == op.SPEC_CONSTANT_OP) ≡ false → opcode_of (slice_index words 0) ≡ o → roles_of words ≡ Ok rs → PlainParts kinds words rs
+    row_of o ≡ Some shape → shape.kinds ≡ ResultId ∷ kinds → (o == op.SPEC_CONSTANT_OP) ≡ false → opcode_of (slice_index words 0) ≡ o →
+    roles_of words ≡ Ok rs → PlainParts kinds words rs
 plain-parts o shape kinds words rs row is other is_o parted =
     let r = row-words o shape words rs row other is_o parted in
     let f = one-front DefinedId kinds r.rest r.others (subst (λ (ks : List Kind). operand_roles ks r.rest ≡ Some r.others) is r.fit) in
@@ -172,7 +177,8 @@ plain-parts o shape kinds words rs row is other is_o parted =
     }
 
 pub typed-parts : (o : ℕ) (shape : Shape) (kinds : List Kind) (words : List ℕ) (rs : List Role) →
-    row_of o ≡ Some shape → shape.kinds ≡ ResultType ∷ ResultId ∷ kinds → (o == op.SPEC_CONSTANT_OP) ≡ false → opcode_of (slice_index words 0) ≡ o → roles_of words ≡ Ok rs → TypedParts kinds words rs
+    row_of o ≡ Some shape → shape.kinds ≡ ResultType ∷ ResultId ∷ kinds → (o == op.SPEC_CONSTANT_OP) ≡ false → opcode_of (slice_index words 0) ≡ o →
+    roles_of words ≡ Ok rs → TypedParts kinds words rs
 typed-parts o shape kinds words rs row is other is_o parted =
     let r = row-words o shape words rs row other is_o parted in
     let f = one-front TypeId (ResultId ∷ kinds) r.rest r.others (subst (λ (ks : List Kind). operand_roles ks r.rest ≡ Some r.others) is r.fit) in
@@ -221,7 +227,8 @@ operation_behind w (t ∷ r ∷ o ∷ ws) rs h =
       fit = inner.1;
     }
 
-pub operation-parts : (words : List ℕ) (rs : List Role) → opcode_of (slice_index words 0) ≡ op.SPEC_CONSTANT_OP → roles_of words ≡ Ok rs → OperationParts words rs
+pub operation-parts : (words : List ℕ) (rs : List Role) → opcode_of (slice_index words 0) ≡ op.SPEC_CONSTANT_OP → roles_of words ≡ Ok rs →
+    OperationParts words rs
 unfolding roles_of
 operation-parts [] rs is_o h = cc
 operation-parts (w ∷ ws) rs is_o h = operation_behind w ws rs (subst (λ (n : ℕ). behind (Opcode ∷ []) (body_roles n ws) ≡ Ok rs) is_o h)
@@ -244,7 +251,7 @@ typed_defined w t r ws others =
     ap (λ (p : Option ℕ). option_and_then (slice_get (w ∷ t ∷ r ∷ ws)) p)
     (position-cons is_defined_id Opcode (TypeId ∷ DefinedId ∷ others)
     ∙ ap (λ (p : Option ℕ). option_map (λ k. suc k) p)
-      (position-cons is_defined_id TypeId (DefinedId ∷ others) ∙ ap (λ (p : Option ℕ). option_map (λ k. suc k) p) (position-cons is_defined_id DefinedId others)))
+    (position-cons is_defined_id TypeId (DefinedId ∷ others) ∙ ap (λ (p : Option ℕ). option_map (λ k. suc k) p) (position-cons is_defined_id DefinedId others)))
 
 plain_words-defined : (words : List ℕ) (rs : List Role) → PlainWords words rs → defined_in words rs ≡ Some (slice_index (drop 1 words) 0)
 plain_words-defined words rs p = rw (p.words_are, p.parts_are) (plain_defined p.word p.result p.rest p.others)
@@ -266,7 +273,8 @@ operation_front words rs p = record {
 is_operation : (o : ℕ) → (o == op.SPEC_CONSTANT_OP) ≡ true → o ≡ op.SPEC_CONSTANT_OP
 is_operation o h = grind (arith, nat_tests)
 
-typed_front : (o : ℕ) (words : List ℕ) (rs : List Role) (b : Bool) → (o == op.SPEC_CONSTANT_OP) ≡ b → row_test first_typed (row_of o) ≡ true → opcode_of (slice_index words 0) ≡ o → roles_of words ≡ Ok rs → TypedWords words rs
+typed_front : (o : ℕ) (words : List ℕ) (rs : List Role) (b : Bool) → (o == op.SPEC_CONSTANT_OP) ≡ b → row_test first_typed (row_of o) ≡ true →
+    opcode_of (slice_index words 0) ≡ o → roles_of words ≡ Ok rs → TypedWords words rs
 typed_front o words rs true special h is_o parted = operation_front words rs (operation-parts words rs (is_o ∙ is_operation o special) parted)
 typed_front o words rs false other h is_o parted =
     let s = row_shape first_typed (row_of o) h in
@@ -277,9 +285,11 @@ no_plain_operation : row_test first_plain (row_of op.SPEC_CONSTANT_OP) ≡ false
 unfolding row_of
 no_plain_operation = refl
 
-plain_front : (o : ℕ) (words : List ℕ) (rs : List Role) (b : Bool) → (o == op.SPEC_CONSTANT_OP) ≡ b → row_test first_plain (row_of o) ≡ true → opcode_of (slice_index words 0) ≡ o → roles_of words ≡ Ok rs → PlainWords words rs
+plain_front : (o : ℕ) (words : List ℕ) (rs : List Role) (b : Bool) → (o == op.SPEC_CONSTANT_OP) ≡ b → row_test first_plain (row_of o) ≡ true →
+    opcode_of (slice_index words 0) ≡ o → roles_of words ≡ Ok rs → PlainWords words rs
 plain_front o words rs true special h is_o parted =
-    let none : row_test first_plain (row_of o) ≡ false = subst (λ (n : ℕ). row_test first_plain (row_of n) ≡ false) (sym (is_operation o special)) no_plain_operation in
+    let none : row_test first_plain (row_of o) ≡ false =
+    subst (λ (n : ℕ). row_test first_plain (row_of n) ≡ false) (sym (is_operation o special)) no_plain_operation in
     cc
 plain_front o words rs false other h is_o parted =
     let s = row_shape first_plain (row_of o) h in
@@ -287,12 +297,17 @@ plain_front o words rs false other h is_o parted =
     (plain-parts o s.shape kinds.0 words rs s.is kinds.1 other is_o parted).front
 
 -- the front of one with a typed result
-pub typed-words : (i : Instruction) (o : ℕ) → IsInstruction i.words (roles i) → opcode i ≡ o → row_test first_typed (row_of o) ≡ true → TypedWords i.words (roles i)
+pub typed-words : (i : Instruction) (o : ℕ) → IsInstruction i.words (roles i) → opcode i ≡ o → row_test first_typed (row_of o) ≡ true →
+    TypedWords i.words (roles i)
 typed-words i o whole is_o h = typed_front o i.words (roles i) (o == op.SPEC_CONSTANT_OP) refl h is_o whole.parted
 
 -- an instruction with a result has its id as its second word, and one with a typed result as its third
-pub defined-plain : (i : Instruction) → IsInstruction i.words (roles i) → row_test first_plain (row_of (opcode i)) ≡ true → word_with is_defined_id i ≡ Some (slice_index (drop 1 i.words) 0)
-defined-plain i whole h = plain_words-defined i.words (roles i) (plain_front (opcode i) i.words (roles i) (opcode i == op.SPEC_CONSTANT_OP) refl h refl whole.parted)
+pub defined-plain : (i : Instruction) → IsInstruction i.words (roles i) → row_test first_plain (row_of (opcode i)) ≡ true →
+    word_with is_defined_id i ≡ Some (slice_index (drop 1 i.words) 0)
+defined-plain i whole h =
+    plain_words-defined i.words (roles i) (plain_front (opcode i) i.words (roles i) (opcode i == op.SPEC_CONSTANT_OP) refl h refl whole.parted)
 
-pub defined-typed : (i : Instruction) → IsInstruction i.words (roles i) → row_test first_typed (row_of (opcode i)) ≡ true → word_with is_defined_id i ≡ Some (slice_index (drop 1 i.words) 1)
-defined-typed i whole h = typed_words-defined i.words (roles i) (typed_front (opcode i) i.words (roles i) (opcode i == op.SPEC_CONSTANT_OP) refl h refl whole.parted)
+pub defined-typed : (i : Instruction) → IsInstruction i.words (roles i) → row_test first_typed (row_of (opcode i)) ≡ true →
+    word_with is_defined_id i ≡ Some (slice_index (drop 1 i.words) 1)
+defined-typed i whole h =
+    typed_words-defined i.words (roles i) (typed_front (opcode i) i.words (roles i) (opcode i == op.SPEC_CONSTANT_OP) refl h refl whole.parted)

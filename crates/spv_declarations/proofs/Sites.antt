@@ -1,23 +1,21 @@
 -- The instruction that defines an id outside functions, and what is known there.
-use Rattle.std.proofs.Common.{◌≡◌, ℕ, zero, suc, ◌+◌, ◌<◌, ◌≤◌, Bool, true, false, cond, not, ◌==◌, ◌&&◌, ◌||◌, List, [], ◌∷◌, ◌++◌, length, take, drop, Option, Some, None, refl, sym, ap, subst, ◌∙◌, arith}
+use Rattle.std.proofs.Common.{◌≡◌, ℕ, zero, suc, Bool, true, false, not, ◌==◌, ◌&&◌, List, [], ◌∷◌, ◌++◌, drop, Option, refl, sym, ap, ◌∙◌, arith}
 use Rattle.std.specs.Prelude.{nat_eq}
 use Rattle.std.specs.Option.{option_map_or}
-use Rattle.std.specs.List.{list_any, list_all, slice_get, slice_index}
+use Rattle.std.specs.List.{list_all, slice_index}
 use Rattle.std.specs.Map.{lookup}
 use Rattle.std.proofs.lemmas.Bool.{eqb-true, and_parts}
-use Rattle.spv_opcodes.specs.declared.op.TheConstants as op
 use Rattle.spv_opcodes.specs.declared.decoration.TheConstants as decoration
 use Rattle.spv_grammar.specs.Table.{row_of}
 use Rattle.spv_grammar.specs.declared.section.TheConstants as section
-use Rattle.spv_grammar.specs.Roles.{is_defined_id}
 use Rattle.spv_module.specs.Code.{row_section}
-use Rattle.spv_module.specs.Instruction.{Instruction, IsInstruction, opcode, roles, word_with}
+use Rattle.spv_module.specs.Instruction.{Instruction, IsInstruction, opcode, roles}
 use Rattle.spv_meaning.specs.Statements.{Statement, rows, by_row, is_silent_opcode}
-use Rattle.spv_meaning.specs.Constants.{Table, Meaning, meaning, type_in, type_at, words_in, words_at, length_in, length_at, defined, composed, members_of, member_decorated, first_literal}
-use Rattle.spv_meaning.specs.Types.{DataType, Members, NoMember, Member}
+use Rattle.spv_meaning.specs.Constants.{Table, Meaning, meaning, type_in, type_at, words_in, words_at, defined, composed, members_of, member_decorated, first_literal}
+use Rattle.spv_meaning.specs.Types.{Members, Member}
 use Rattle.std.specs.Option.{is_some}
-use Rattle.spv_ids.specs.Ids.{defines, definition, kind, word_of, words_of, is_defined_before, used_ids}
-use Rattle.spv_declarations.specs.Declarations.{Declared, declared_before, says, entry}
+use Rattle.spv_ids.specs.Ids.{kind, word_of, words_of, is_defined_before, used_ids}
+use Rattle.spv_declarations.specs.Declarations.{declared_before, says}
 use Rattle.spv_declarations.specs.Sound.{AreInstructions, Unbroken, IsBefore, table_before}
 use Rattle.spv_declarations.proofs.Defining.{entry-by}
 use Rattle.spv_declarations.proofs.Unbroken.{Keeps, keeps, loud-plain}
@@ -72,11 +70,14 @@ loud_of : (b c : Bool) → (not b && c) ≡ true → (b ≡ false) × (c ≡ tru
 loud_of true c h = cc
 loud_of false c h = (refl, h)
 
-pub site : (insts : List Instruction) → AreInstructions insts → (k id o : ℕ) → Unbroken insts k → (declared_before insts k).begun ≡ false → (d : DefinedAt insts k id) → opcode d.inst ≡ o → is_declared o ≡ true → Site insts k id o
+pub site : (insts : List Instruction) → AreInstructions insts → (k id o : ℕ) → Unbroken insts k → (declared_before insts k).begun ≡ false →
+    (d : DefinedAt insts k id) → opcode d.inst ≡ o → is_declared o ≡ true → Site insts k id o
 site insts whole k id o clean outside d is_o declares =
     let parts = loud_of (is_silent_opcode o) (row_section (row_of o) == section.DECLARATIONS) declares in
     let here = not_begun insts d.place k (omega (arith, d.before)) outside in
-    let kept = keeps insts (declared_before insts d.place) d.place d.inst (loud-plain d.inst (ap is_silent_opcode is_o ∙ parts.0)) (clean d.place d.inst d.before d.at) in
+    let kept =
+    keeps insts (declared_before insts d.place) d.place d.inst (loud-plain d.inst (ap is_silent_opcode is_o ∙ parts.0))
+    (clean d.place d.inst d.before d.at) in
     record {
       d = d;
       is_o = is_o;
@@ -89,7 +90,8 @@ site insts whole k id o clean outside d is_o declares =
       same = λ x h. sym (keeps_meaning insts whole d.place k x (omega (arith, d.before)) clean h);
     }
 
-pub site-of : (insts : List Instruction) → AreInstructions insts → (k id o : ℕ) → Unbroken insts k → (declared_before insts k).begun ≡ false → IsBefore insts k id → (kind insts id == o) ≡ true → is_declared o ≡ true → Site insts k id o
+pub site-of : (insts : List Instruction) → AreInstructions insts → (k id o : ℕ) → Unbroken insts k → (declared_before insts k).begun ≡ false →
+    IsBefore insts k id → (kind insts id == o) ≡ true → is_declared o ≡ true → Site insts k id o
 site-of insts whole k id o clean outside before is_kind declares =
     let d = defined_at insts k id before in
     site insts whole k id o clean outside d (kind-is insts k id o d is_kind) declares
@@ -97,7 +99,8 @@ site-of insts whole k id o clean outside before is_kind declares =
 -- ---- lists of ids
 
 -- induction on the members
-pub members-same : (all : List Statement) (t u : Table) (p : ℕ → Bool) → ((x : ℕ) → p x ≡ true → meaning t x ≡ meaning u x) → (id number : ℕ) (ids : List ℕ) → list_all p ids ≡ true → members_of all t id number ids ≡ members_of all u id number ids
+pub members-same : (all : List Statement) (t u : Table) (p : ℕ → Bool) → ((x : ℕ) → p x ≡ true → meaning t x ≡ meaning u x) →
+    (id number : ℕ) (ids : List ℕ) → list_all p ids ≡ true → members_of all t id number ids ≡ members_of all u id number ids
 members-same all t u p same id number [] h = refl
 members-same all t u p same id number (m ∷ ms) h =
     let parts = and_parts (p m) (list_all p ms) h in
@@ -107,8 +110,10 @@ members-same all t u p same id number (m ∷ ms) h =
     ∙ ap (λ (rest : Members). Member offset volatile (type_at u m) rest) (members-same all t u p same id (suc number) ms parts.1)
 
 -- induction on the constituents
-pub composed-same : (t u : Table) (p : ℕ → Bool) → ((x : ℕ) → p x ≡ true → meaning t x ≡ meaning u x) → (ids : List ℕ) → list_all p ids ≡ true → composed t ids ≡ composed u ids
+pub composed-same : (t u : Table) (p : ℕ → Bool) → ((x : ℕ) → p x ≡ true → meaning t x ≡ meaning u x) → (ids : List ℕ) → list_all p ids ≡ true →
+    composed t ids ≡ composed u ids
 composed-same t u p same [] h = refl
 composed-same t u p same (id ∷ ids) h =
     let parts = and_parts (p id) (list_all p ids) h in
-    ap (λ (o : Option Meaning). words_in o ++ composed t ids) (same id parts.0) ∙ ap (λ (ws : List ℕ). words_at u id ++ ws) (composed-same t u p same ids parts.1)
+    ap (λ (o : Option Meaning). words_in o ++ composed t ids) (same id parts.0) ∙ ap (λ (ws : List ℕ). words_at u id ++ ws)
+    (composed-same t u p same ids parts.1)

@@ -1,16 +1,12 @@
 -- What an instruction keeps to that breaks no rule.
-use Rattle.std.proofs.Common.{◌≡◌, ℕ, Bool, true, false, cond, not, ◌==◌, ◌&&◌, ◌||◌, List, [], ◌∷◌, ◌++◌, Option, Some, None, refl, sym, ap, subst, ◌∙◌}
-use Rattle.std.specs.List.{list_any, list_all}
-use Rattle.std.specs.Option.{option_map_or}
-use Rattle.std.proofs.lemmas.Bool.{and_parts, not-true, or_parts, not-false}
-use Rattle.spv_opcodes.specs.declared.op.TheConstants as op
-use Rattle.spv_grammar.specs.Roles.{is_defined_id}
-use Rattle.spv_module.specs.Code.{is_line, plain_section}
+use Rattle.std.proofs.Common.{◌≡◌, ℕ, Bool, true, false, cond, not, ◌&&◌, List, [], ◌++◌, None, refl}
+use Rattle.std.proofs.lemmas.Bool.{and_parts, not-true, or_parts}
+use Rattle.spv_module.specs.Code.{is_line}
 use Rattle.spv_module.specs.First.{unless}
-use Rattle.spv_module.specs.Instruction.{Instruction, opcode, word_with}
+use Rattle.spv_module.specs.Instruction.{Instruction, opcode}
 use Rattle.spv_module.proofs.Ids.{first_nil, second_nil}
 use Rattle.spv_meaning.specs.Statements.{is_silent_opcode, is_debug_opcode, is_line_opcode}
-use Rattle.spv_ids.specs.Ids.{id_rules, is_second, names_unknown, is_unknown, is_declaration, is_defined, is_defined_before, used_ids}
+use Rattle.spv_ids.specs.Ids.{id_rules, is_second, names_unknown}
 use Rattle.spv_typing.specs.Types.{type_fits}
 use Rattle.spv_typing.specs.Operations.{spec_op_fits}
 use Rattle.spv_repeats.specs.Repeats.{occurs_before, repeats_before}
@@ -45,7 +41,9 @@ pub keeps : (insts : List Instruction) (d : Declared) (k : ℕ) (i : Instruction
 unfolding rules_at
 keeps insts d k i plain h =
     let all = at_cond (is_line i) (id_rules insts d.begun k i ++ declaration_rules insts d k i) plain h in
-    let ids = at_cond (is_line i) (unless (not (is_second insts k i)) 301 ++ unless (not (names_unknown insts d.begun k i)) 302) plain (first_nil (id_rules insts d.begun k i) (declaration_rules insts d k i) all) in
+    let ids =
+    at_cond (is_line i) (unless (not (is_second insts k i)) 301 ++ unless (not (names_unknown insts d.begun k i)) 302) plain
+    (first_nil (id_rules insts d.begun k i) (declaration_rules insts d k i) all) in
     let r3 = second_nil (id_rules insts d.begun k i) (declaration_rules insts d k i) all in
     let r4 = second_nil (unless (type_fits insts i && not (occurs_before insts k i)) 303) _ r3 in
     let r5 = second_nil (unless (constant_fits insts d i) 304) _ r4 in
@@ -53,8 +51,12 @@ keeps insts d k i plain h =
     let r7 = second_nil (unless (decoration_fits insts i && not (repeats_before insts k i)) 306) _ r6 in
     let r8 = second_nil (unless (layout_fits d i) 307) _ r7 in
     let r9 = second_nil (unless (global_fits insts d.begun i) 308) _ r8 in
-    let types_both = and_parts (type_fits insts i) (not (occurs_before insts k i)) (passes _ 303 (first_nil (unless (type_fits insts i && not (occurs_before insts k i)) 303) _ r3)) in
-    let decorations_both = and_parts (decoration_fits insts i) (not (repeats_before insts k i)) (passes _ 306 (first_nil (unless (decoration_fits insts i && not (repeats_before insts k i)) 306) _ r6)) in
+    let types_both =
+    and_parts (type_fits insts i) (not (occurs_before insts k i))
+    (passes _ 303 (first_nil (unless (type_fits insts i && not (occurs_before insts k i)) 303) _ r3)) in
+    let decorations_both =
+    and_parts (decoration_fits insts i) (not (repeats_before insts k i))
+    (passes _ 306 (first_nil (unless (decoration_fits insts i && not (repeats_before insts k i)) 306) _ r6)) in
     record {
       once = not-true (is_second insts k i) (passes _ 301 (first_nil (unless (not (is_second insts k i)) 301) _ ids));
       known = not-true (names_unknown insts d.begun k i) (passes _ 302 (second_nil (unless (not (is_second insts k i)) 301) _ ids));

@@ -1,7 +1,6 @@
 -- Words that are those of a value of a type: as many, each 0 or 1 where it is a boolean's, and else one that a predicate holds of.
-use Rattle.std.proofs.Common.{◌≡◌, ℕ, zero, suc, ◌+◌, ◌*◌, ◌/◌, ◌<◌, ◌≤◌, Bool, true, false, cond, not, ◌==◌, ◌&&◌, ◌||◌, nat_lt, List, [], ◌∷◌, ◌++◌, length, take, drop, replicate, map, Option, Some, None, refl, sym, ap, subst, ◌∙◌, arith}
+use Rattle.std.proofs.Common.{◌≡◌, ℕ, zero, suc, ◌+◌, ◌*◌, ◌/◌, ◌<◌, Bool, true, false, nat_lt, List, [], ◌∷◌, ◌++◌, length, replicate, refl, ap, subst, ◌∙◌, arith}
 use Rattle.std.specs.List.{list_all, slice_index}
-use Rattle.std.specs.Bool.{IsTrue}
 use Rattle.std.proofs.lemmas.List.{length-append}
 use Rattle.std.proofs.lemmas.Bool.{lt-ltb, and_from}
 use Rattle.spv_value.specs.Eval.{AreBooleanWords}
@@ -19,7 +18,8 @@ AreWordsOf P (b ∷ bs) [] = ⊥
 AreWordsOf P (b ∷ bs) (w ∷ ws) = IsWordOf P b w × AreWordsOf P bs ws
 
 -- induction on the places
-pub words-append : (P : ℕ → Type 0) (bs cs : List Bool) (ws vs : List ℕ) → AreWordsOf P bs ws → AreWordsOf P cs vs → AreWordsOf P (bs ++ cs) (ws ++ vs)
+pub words-append : (P : ℕ → Type 0) (bs cs : List Bool) (ws vs : List ℕ) → AreWordsOf P bs ws → AreWordsOf P cs vs →
+    AreWordsOf P (bs ++ cs) (ws ++ vs)
 words-append P [] cs [] vs h k = k
 words-append P [] cs (w ∷ ws) vs h k = absurd h
 words-append P (b ∷ bs) cs [] vs h k = absurd h
@@ -31,7 +31,7 @@ words-length P [] (w ∷ ws) h = absurd h
 words-length P (b ∷ bs) [] h = absurd h
 words-length P (b ∷ bs) (w ∷ ws) h = ap suc (words-length P bs ws h.1)
 
-zero_word : (P : ℕ → Type 0) → P 0 → (b : Bool) → IsWordOf P b 0
+pub zero_word : (P : ℕ → Type 0) → P 0 → (b : Bool) → IsWordOf P b 0
 zero_word P p true = omega arith
 zero_word P p false = p
 
@@ -47,7 +47,7 @@ one-word P (w ∷ v ∷ ws) e p = absurd (omega (arith, e))
 
 -- ---- as many places as words
 
-length-copies : {X : Type 0} (n : ℕ) (xs : List X) → length (copies n xs) ≡ n * length xs
+pub length-copies : {X : Type 0} (n : ℕ) (xs : List X) → length (copies n xs) ≡ n * length xs
 length-copies zero xs = omega arith
 length-copies (suc n) xs = length-append xs (copies n xs) ∙ copied (length xs) n (length (copies n xs)) (length-copies n xs)
   where
@@ -67,7 +67,8 @@ mutual
   pub length-member_booleans : (ms : Members) → length (member_booleans ms) ≡ member_cells ms
   length-member_booleans NoMember = refl
   length-member_booleans (Member offset volatile t rest) =
-      length-append (booleans t) (member_booleans rest) ∙ ap (λ (n : ℕ). n + length (member_booleans rest)) (length-booleans t) ∙ ap (λ (n : ℕ). cells t + n) (length-member_booleans rest)
+      length-append (booleans t) (member_booleans rest) ∙ ap (λ (n : ℕ). n + length (member_booleans rest)) (length-booleans t) ∙ ap
+      (λ (n : ℕ). cells t + n) (length-member_booleans rest)
 
 pub words-cells : (P : ℕ → Type 0) (t : DataType) (ws : List ℕ) → AreWordsOf P (booleans t) ws → length ws ≡ cells t
 words-cells P t ws h = words-length P (booleans t) ws h ∙ length-booleans t

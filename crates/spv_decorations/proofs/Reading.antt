@@ -1,16 +1,15 @@
 -- The tables of decorations, read one instruction after the other.
-use Rattle.std.proofs.Common.{◌≡◌, ℕ, ◌+◌, ◌<◌, ◌==◌, ◌&&◌, Bool, true, false, cond, nat_eq, List, [], ◌∷◌, ◌++◌, length, take, slice_index, Option, Some, None, is_some, refl, sym, ap, ◌∙◌, subst, true≢false, eqb-true, add-one, arith}
+use Rattle.std.proofs.Common.{◌≡◌, ℕ, ◌+◌, ◌<◌, ◌==◌, ◌&&◌, Bool, true, false, cond, List, [], ◌∷◌, ◌++◌, length, take, slice_index, Option, Some, None, is_some, refl, sym, ap, ◌∙◌, subst, true≢false, eqb-true, add-one}
 use Rattle.std.specs.List.{slice_get}
 use Rattle.std.specs.Map.{lookup}
 use Rattle.std.specs.Option.{option_or}
 use Rattle.std.proofs.Math.Seq.{take-suc}
 use Rattle.std.proofs.lemmas.Bool.{and_parts}
 use Rattle.std.proofs.lemmas.Option.{get_or_from_slice_get}
-use Rattle.indexmap.specs.IndexMap.{IndexMap, get, Updates}
+use Rattle.indexmap.specs.IndexMap.{get, Updates}
 use Rattle.spv_opcodes.specs.declared.op.TheConstants as op
 use Rattle.spv_module.specs.Instruction.{Instruction, opcode}
 use Rattle.spv_meaning.specs.Statements.{statements_in}
-use Rattle.spv_seed.specs.declared.Seed.{Seed}
 use Rattle.spv_decorations.specs.Decorations.{decoration_of, member_decoration_of}
 use Rattle.spv_decorations.specs.Index.{Targets, Members, is_same, is_same_member, HasTargets, HasMembers, AddsTarget, AddsMember, literal_by, member_literal_by}
 use Rattle.spv_decorations.proofs.Said.{decoration-push, member_decoration-push}

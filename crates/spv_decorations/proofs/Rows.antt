@@ -1,11 +1,10 @@
 -- Which instructions say that something is decorated: OpDecorate and OpMemberDecorate alone.
-use Rattle.std.proofs.Common.{◌≡◌, ℕ, ◌==◌, ◌&&◌, Bool, true, false, cond, nat_eq, List, [], ◌∷◌, ◌++◌, map, take, drop, slice_index, Option, Some, None, refl, sym, ap, ◌∙◌, true≢false, eqb-true, subst}
+use Rattle.std.proofs.Common.{◌≡◌, ℕ, ◌==◌, Bool, true, false, cond, nat_eq, List, [], ◌∷◌, ◌++◌, map, take, drop, slice_index, Option, Some, refl, sym, ◌∙◌, true≢false}
 use Rattle.std.specs.Map.{lookup, keys_of}
 use Rattle.spv_opcodes.specs.declared.op.TheConstants as op
 use Rattle.spv_opcodes.specs.declared.execution_mode.TheConstants as execution_mode
 use Rattle.spv_meaning.specs.Statements as says
 use Rattle.spv_meaning.specs.Statements.{Statement, Rows, by_row, rows, module_rows, type_rows, constant_rows, flow_rows, memory_rows, operation_rows, atomic, evaluated, spec_constant_op, of_constants, is_silent_opcode}
-use Rattle.spv_meaning.specs.Constants.{decorated, member_decorated}
 
 abbrev pub is_decoration : Statement → Bool
 is_decoration (says.Decorate target what literals) = true

@@ -1,5 +1,5 @@
 -- What one instruction decorates, and what instructions one after the other do.
-use Rattle.std.proofs.Common.{◌≡◌, ℕ, ◌+◌, ◌==◌, ◌&&◌, Bool, true, false, cond, nat_eq, List, [], ◌∷◌, ◌++◌, drop, slice_index, Option, Some, None, refl, sym, ap, ◌∙◌, true≢false, eqb-true, subst}
+use Rattle.std.proofs.Common.{◌≡◌, ℕ, ◌+◌, ◌==◌, ◌&&◌, Bool, true, false, cond, nat_eq, List, [], ◌∷◌, ◌++◌, drop, slice_index, Option, Some, None, refl, ap, ◌∙◌, true≢false, eqb-true}
 use Rattle.std.proofs.lemmas.List.{get_or-drop}
 use Rattle.std.proofs.lemmas.Grind.{get_or_after_one}
 use Rattle.std.specs.Map.{lookup}

@@ -43,6 +43,6 @@ variable_fits insts t r class initialiser =
     && (length_fits insts class (pointee insts t) && initialiser_fits insts class (pointee insts t) initialiser)))
 
 -- a variable outside functions fits; every other instruction passes
-abbrev pub global_fits : List Instruction → (begun : Bool) → Instruction → Bool
+unfoldable pub global_fits : List Instruction → (begun : Bool) → Instruction → Bool
 global_fits insts begun i =
     begun || not (opcode i == op.VARIABLE) || variable_fits insts (slice_index i.words 1) (slice_index i.words 2) (slice_index i.words 3) (drop 4 i.words)

@@ -1,5 +1,5 @@
 -- 306 BadDecoration, but for what stands twice: each decoration stands on a target that takes it.
-use Rattle.std.specs.Prelude.{ℕ, Bool, true, false, cond, ◌==◌, ◌&&◌, ◌||◌, nat_lt, List, [], ◌∷◌, length, slice_index}
+use Rattle.std.specs.Prelude.{ℕ, Bool, true, cond, ◌==◌, ◌&&◌, ◌||◌, nat_lt, List, [], ◌∷◌, length, slice_index}
 use Rattle.spv_opcodes.specs.declared.op.TheConstants as op
 use Rattle.spv_opcodes.specs.declared.decoration.TheConstants as decoration
 use Rattle.spv_opcodes.specs.declared.builtin.TheConstants as builtin
@@ -37,7 +37,7 @@ suits_member insts target member d =
     is_one_of (decoration.OFFSET ∷ memory_decorations) d && (is_struct insts target && nat_lt member (length (members insts target)))
 
 -- a decoration stands on a target that takes it; every other instruction passes
-abbrev pub decoration_fits : List Instruction → Instruction → Bool
+unfoldable pub decoration_fits : List Instruction → Instruction → Bool
 decoration_fits insts i =
     cond (opcode i == op.DECORATE) (suits insts (slice_index i.words 1) (slice_index i.words 2) (slice_index i.words 3))
     (cond (opcode i == op.MEMBER_DECORATE) (suits_member insts (slice_index i.words 1) (slice_index i.words 2) (slice_index i.words 3))

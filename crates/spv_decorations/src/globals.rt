@@ -95,6 +95,7 @@ fn variable_fits(
 /// Whether a variable outside functions fits its storage class: in its pointer type, in its built-in or block,
 /// and in its initialiser. `begun` says that a function has begun before the instruction. Every other
 /// instruction passes.
+#[tactic(auto, unfolding(crate::specs::Globals::global_fits))]
 pub fn global_fits(kinds: &Kinds, decorations: &Decorations, begun: bool, inst: &View) -> bool
     requires { decorations.now ≡ kinds.now }
     ensures { result ≡ globals.global_fits kinds.now begun (seen inst.now) }

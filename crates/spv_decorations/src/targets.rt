@@ -70,6 +70,7 @@ fn suits_member(kinds: &Kinds, target: u32, member: u32, decoration: u32) -> boo
 }
 
 /// Whether a decoration stands on a target that takes it. Every other instruction passes.
+#[tactic(auto, unfolding(crate::specs::Targets::decoration_fits))]
 pub fn decoration_fits(kinds: &Kinds, inst: &View) -> bool
     ensures { result ≡ targets.decoration_fits kinds.now (seen inst.now) }
 {

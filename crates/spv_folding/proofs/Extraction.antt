@@ -19,11 +19,13 @@ moved_cond : (b : Bool) (n x y : ℕ) (t : DataType) → x ≡ n + y
 moved_cond true n x y t e = ap (λ k. Some (record { first = k; type = t })) e
 moved_cond false n x y t e = refl
 
-element_moved : (count stride : ℕ) (t : DataType) (n first index : ℕ) → element count stride t (n + first) index ≡ option_map (moved n) (element count stride t first index)
+element_moved : (count stride : ℕ) (t : DataType) (n first index : ℕ)
+    → element count stride t (n + first) index ≡ option_map (moved n) (element count stride t first index)
 element_moved count stride t n first index =
     moved_cond (nat_lt index count) n (n + first + index * stride) (first + index * stride) t (add_assoc n first (index * stride))
 
-member_moved : (ms : Members) (packed n first index : ℕ) → member false packed ms (n + first) index ≡ option_map (moved n) (member false packed ms first index)
+member_moved : (ms : Members) (packed n first index : ℕ)
+    → member false packed ms (n + first) index ≡ option_map (moved n) (member false packed ms first index)
 member_moved NoMember packed n first index = refl
 member_moved (Member offset volatile t rest) packed n first zero = ap (λ k. Some (record { first = k; type = t })) (add_assoc n first packed)
 member_moved (Member offset volatile t rest) packed n first (suc index) = member_moved rest (packed + cells t) n first index
@@ -62,7 +64,8 @@ element_within_at count stride t first index h true e =
     omega (arith, suc-mul index stride)
 element_within_at count stride t first index h false e = tt
 
-element_within : (count stride : ℕ) (t : DataType) (first index : ℕ) → cells t ≤ stride → IsWithin (first + count * stride) (element count stride t first index)
+element_within : (count stride : ℕ) (t : DataType) (first index : ℕ) → cells t ≤ stride
+    → IsWithin (first + count * stride) (element count stride t first index)
 element_within count stride t first index h = element_within_at count stride t first index h (nat_lt index count) refl
 
 member_within : (ms : Members) (packed first index : ℕ) → IsWithin (first + packed + member_cells ms) (member false packed ms first index)
@@ -92,7 +95,8 @@ within_more : (m n : ℕ) (o : Option Part) → m ≤ n → IsWithin m o → IsW
 within_more m n None h w = tt
 within_more m n (Some p) h w = omega arith
 
-within_behind : (f : Part → Option Part) (n : ℕ) → ((p : Part) → IsWithin (p.first + cells p.type) (f p)) → (o : Option Part) → IsWithin n o → IsWithin n (and_then o f)
+within_behind : (f : Part → Option Part) (n : ℕ) → ((p : Part) → IsWithin (p.first + cells p.type) (f p)) → (o : Option Part) → IsWithin n o
+    → IsWithin n (and_then o f)
 within_behind f n h None w = tt
 within_behind f n h (Some p) w = within_more (p.first + cells p.type) n (f p) w (h p)
 
@@ -125,7 +129,8 @@ extracted_front t ws more (Some p) w =
 
 -- words in front of a part, and behind it
 extracted_at : (t u : DataType) (literals front ws more : List ℕ) (first : ℕ) → length front ≡ first → length ws ≡ cells u
-    → extracted t (front ++ (ws ++ more)) (packed_part literals (record { first = first; type = u })) ≡ extracted t ws (packed_part literals (whole_part u))
+    → extracted t (front ++ (ws ++ more)) (packed_part literals (record { first = first; type = u }))
+    ≡ extracted t ws (packed_part literals (whole_part u))
 extracted_at t u literals front ws more first h sized =
     let P : ℕ → Type 0 = λ k. IsWithin k (packed_part literals (whole_part u)) in
     let begins : first ≡ first + 0 = omega arith in
@@ -167,7 +172,8 @@ extract_member t u rest ms wss j ws sized a b = member_at t u rest ms [] 0 wss j
 
 element_at : (t u : DataType) (rest front : List ℕ) (first : ℕ) (wss : List (List ℕ)) (j : ℕ) (ws : List ℕ)
     → length front ≡ first → All (λ vs. length vs ≡ cells u) wss → slice_get wss j ≡ Some ws
-    → extracted t (front ++ concat wss) (packed_part rest (record { first = first + j * cells u; type = u })) ≡ extracted t ws (packed_part rest (whole_part u))
+    → extracted t (front ++ concat wss) (packed_part rest (record { first = first + j * cells u; type = u }))
+    ≡ extracted t ws (packed_part rest (whole_part u))
 element_at t u rest front first [] j ws h sized b = absurd (cc)
 element_at t u rest front first (vs ∷ wss) zero ws h sized b =
     let words : vs ≡ ws = cc in
@@ -235,19 +241,22 @@ insert_component u n (x ∷ []) ws j there one sized single =
 pub shuffle_sized : (words literals : List ℕ) → length (map (shuffled words) literals) ≡ length literals
 shuffle_sized words literals = length-map literals (shuffled words)
 
-extracted_sized : (t : DataType) (ws : List ℕ) (o : Option Part) → IsWithin (length ws) o → IfSome o (λ p. cells p.type ≡ cells t) → length (extracted t ws o) ≡ cells t
+extracted_sized : (t : DataType) (ws : List ℕ) (o : Option Part) → IsWithin (length ws) o → IfSome o (λ p. cells p.type ≡ cells t)
+    → length (extracted t ws o) ≡ cells t
 extracted_sized t ws None within sized = length-replicate (cells t) 0
 extracted_sized t ws (Some p) within sized =
     let room : cells p.type ≤ length (drop p.first ws) = omega (arith, length-drop p.first ws) in
     length-take-le (cells p.type) (drop p.first ws) room ∙ sized
 
-pub extract_sized : (t u : DataType) (literals ws : List ℕ) → length ws ≡ cells u → IfSome (packed_part literals (whole_part u)) (λ p. cells p.type ≡ cells t)
+pub extract_sized : (t u : DataType) (literals ws : List ℕ) → length ws ≡ cells u
+    → IfSome (packed_part literals (whole_part u)) (λ p. cells p.type ≡ cells t)
     → length (extracted t ws (packed_part literals (whole_part u))) ≡ cells t
 extract_sized t u literals ws whole sized =
     let P : ℕ → Type 0 = λ k. IsWithin k (packed_part literals (whole_part u)) in
     extracted_sized t ws (packed_part literals (whole_part u)) (subst P (sym whole) (whole_within literals u)) sized
 
-inserted_sized : (object ws : List ℕ) (o : Option Part) → IsWithin (length ws) o → IfSome o (λ p. cells p.type ≡ length object) → length (inserted object ws o) ≡ length ws
+inserted_sized : (object ws : List ℕ) (o : Option Part) → IsWithin (length ws) o → IfSome o (λ p. cells p.type ≡ length object)
+    → length (inserted object ws o) ≡ length ws
 inserted_sized object ws None within sized = refl
 inserted_sized object ws (Some p) within sized =
     let front : p.first ≤ length ws = omega arith in
@@ -259,7 +268,8 @@ inserted_sized object ws (Some p) within sized =
       length-drop (p.first + cells p.type) ws,
     )
 
-pub insert_sized : (u : DataType) (literals object ws : List ℕ) → length ws ≡ cells u → IfSome (packed_part literals (whole_part u)) (λ p. cells p.type ≡ length object)
+pub insert_sized : (u : DataType) (literals object ws : List ℕ) → length ws ≡ cells u
+    → IfSome (packed_part literals (whole_part u)) (λ p. cells p.type ≡ length object)
     → length (inserted object ws (packed_part literals (whole_part u))) ≡ length ws
 insert_sized u literals object ws whole sized =
     let P : ℕ → Type 0 = λ k. IsWithin k (packed_part literals (whole_part u)) in
@@ -288,7 +298,8 @@ pub type_here : (P : DataType → Type 0) (u : DataType) → P u → IfSome (pac
 type_here P u h = h
 
 member_type_at : (P : DataType → Type 0) (u : DataType) (rest : List ℕ) (ms : Members) (packed j : ℕ)
-    → slice_get (member_types ms) j ≡ Some u → HasType P (packed_part rest (whole_part u)) → HasType P (and_then (member false packed ms 0 j) (packed_part rest))
+    → slice_get (member_types ms) j ≡ Some u → HasType P (packed_part rest (whole_part u))
+    → HasType P (and_then (member false packed ms 0 j) (packed_part rest))
 member_type_at P u rest NoMember packed j a h = tt
 member_type_at P u rest (Member offset volatile v ms) packed zero a h =
     let Q : DataType → Type 0 = λ t. HasType P (packed_part rest (record { first = 0 + packed; type = t })) in

@@ -1,10 +1,7 @@
 -- Each operation that OpSpecConstantOp may name takes operands of its form, and its result has as many words as the form says.
-use Rattle.std.proofs.Common.{◌≡◌, ℕ, zero, suc, ◌≤◌, ◌<◌, ◌&&◌, Bool, true, false, nat_lt, nat_eq, if◌then◌else◌, List, [], ◌∷◌, Option, Some, length, map, slice_index, refl, sym, ap, ◌∙◌, subst, arith, inl, inr, ◌⊎◌}
+use Rattle.std.proofs.Common.{rules, ◌≡◌, ℕ, zero, suc, ◌≤◌, ◌<◌, Bool, true, false, nat_eq, if◌then◌else◌, List, [], ◌∷◌, Option, Some, length, slice_index, refl, sym, ap, ◌∙◌, subst, arith, inl, inr, ◌⊎◌}
 use Rattle.std.proofs.lemmas.List.{length-map}
-use Rattle.std.proofs.lemmas.Bool.{lt-ltb}
 use Rattle.std.proofs.lemmas.Bool.Decides.{eqb_tells}
-use Rattle.std.specs.Int.{from_bool}
-use Rattle.std.specs.List.{list_all}
 use Rattle.std.specs.Map.{lookup}
 use Rattle.spv_value.specs.Bits.{zip_with}
 use Rattle.spv_value.specs.Compare.{i_equal, i_not_equal, u_less_than, u_less_than_equal, u_greater_than, u_greater_than_equal, s_less_than, s_less_than_equal, s_greater_than, s_greater_than_equal, logical_not, logical_and, logical_or, is_one, select}
@@ -12,22 +9,8 @@ use Rattle.spv_value.specs.Eval.{Rule, Ints1, Ints2, Bools1, Bools2, Choice, ope
 use Rattle.spv_typing.specs.declared.operations.Form.{Form}
 use Rattle.spv_typing.specs.declared.operations.Form.TheVariants.{Ints, Bools, Compares, Selects, Shuffles, Extracts, Inserts}
 use Rattle.spv_typing.specs.Operations.{spec_operations}
+use Rattle.spv_folding.proofs.Booleans.{two, all_two, all_two_zip, choice_booleans}
 use Rattle.spv_folding.specs.Folding.{AreComponents, AreConditions, AreChoices, AreOperands, GivesBooleans}
-
--- ---- words of booleans
-
-two : (b : Bool) → from_bool b < 2
-two true = omega arith
-two false = omega arith
-
-all_two : (f : ℕ → ℕ) → ((a : ℕ) → f a < 2) → (xs : List ℕ) → AreBooleanWords (map f xs)
-all_two f h [] = refl
-all_two f h (x ∷ xs) = rw (lt-ltb (f x) 2 (h x)) (all_two f h xs)
-
-all_two_zip : (f : ℕ → ℕ → ℕ) → ((a b : ℕ) → f a b < 2) → (xs ys : List ℕ) → AreBooleanWords (zip_with f xs ys)
-all_two_zip f h [] ys = refl
-all_two_zip f h (x ∷ xs) [] = refl
-all_two_zip f h (x ∷ xs) (y ∷ ys) = rw (lt-ltb (f x y) 2 (h x y)) (all_two_zip f h xs ys)
 
 -- ---- lengths
 
@@ -57,40 +40,6 @@ length-choice c cs xs ys condition h k =
       | inr many ↦ rw many.0 (length-zip_with3 select c cs xs ys (elim condition [ inl one ↦ absurd (many.1 one) | inr same ↦ same ]) h k)
     ]
 
-cond_two : (b : Bool) (x y : ℕ) → nat_lt x 2 ≡ true → nat_lt y 2 ≡ true → nat_lt (if b then x else y) 2 ≡ true
-cond_two true x y h k = h
-cond_two false x y h k = k
-
-and_left : (a b : Bool) → (a && b) ≡ true → a ≡ true
-and_left true b h = refl
-and_left false b h = h
-
-and_right : (a b : Bool) → (a && b) ≡ true → b ≡ true
-and_right true b h = h
-and_right false b h = absurd (cc)
-
-selected_two : (cs xs ys : List ℕ) → AreBooleanWords xs → AreBooleanWords ys → AreBooleanWords (zip_with3 select cs xs ys)
-unfolding select
-selected_two [] xs ys h k = refl
-selected_two (c ∷ cs) [] ys h k = refl
-selected_two (c ∷ cs) (x ∷ xs) [] h k = refl
-selected_two (c ∷ cs) (x ∷ xs) (y ∷ ys) h k =
-    let first : nat_lt (if is_one c then x else y) 2 ≡ true =
-    cond_two (is_one c) x y (and_left (nat_lt x 2) (list_all (λ b. nat_lt b 2) xs) h) (and_left (nat_lt y 2) (list_all (λ b. nat_lt b 2) ys) k) in
-    rw first
-    (selected_two cs xs ys (and_right (nat_lt x 2) (list_all (λ b. nat_lt b 2) xs) h) (and_right (nat_lt y 2) (list_all (λ b. nat_lt b 2) ys) k))
-
-cond_booleans : (b : Bool) (xs ys : List ℕ) → AreBooleanWords xs → AreBooleanWords ys → AreBooleanWords (if b then xs else ys)
-cond_booleans true xs ys h k = h
-cond_booleans false xs ys h k = k
-
-choice_booleans : (cs xs ys : List ℕ) → AreBooleanWords xs → AreBooleanWords ys → AreBooleanWords (choice cs xs ys)
-choice_booleans cs xs ys h k =
-    elim (eqb_tells (length cs) 1) [
-      | inl one ↦ rw one.0 (cond_booleans (is_one (slice_index cs 0)) xs ys h k)
-      | inr many ↦ rw many.0 (selected_two cs xs ys h k)
-    ]
-
 -- ---- rows
 
 -- a rule takes operands of the form, and makes words of booleans where the form does
@@ -110,105 +59,13 @@ abbrev AllFit : List (ℕ × Form) → Type 0
 AllFit [] = Unit {0}
 AllFit (row ∷ rows) = Fits row.1 (rule_at row.0 (op_rules 32)) × AllFit rows
 
--- by row: numbers, booleans, comparisons, and the others
+-- row by row
 operations_fit : AllFit spec_operations
 unfolding op_rules i_equal i_not_equal u_less_than u_less_than_equal u_greater_than u_greater_than_equal s_less_than s_less_than_equal s_greater_than s_greater_than_equal logical_not logical_and logical_or
-operations_fit = (
-  refl,
-  (
-    refl,
-    (
-      refl,
-      (
-        refl,
-        (
-          refl,
-          (
-            refl,
-            (
-              refl,
-              (
-                refl,
-                (
-                  refl,
-                  (
-                    refl,
-                    (
-                      refl,
-                      (
-                        refl,
-                        (
-                          refl,
-                          (
-                            refl,
-                            (
-                              refl,
-                              (
-                                refl,
-                                (
-                                  (refl, λ a. two _),
-                                  (
-                                    (refl, λ a b. two _),
-                                    (
-                                      (refl, λ a b. two _),
-                                      (
-                                        (refl, λ a b. two _),
-                                        (
-                                          (refl, λ a b. two _),
-                                          (
-                                            (λ a b. two _),
-                                            (
-                                              (λ a b. two _),
-                                              (
-                                                (λ a b. two _),
-                                                (
-                                                  (λ a b. two _),
-                                                  (
-                                                    (λ a b. two _),
-                                                    (
-                                                      (λ a b. two _),
-                                                      (
-                                                        (λ a b. two _),
-                                                        (
-                                                          (λ a b. two _),
-                                                          (
-                                                            (λ a b. two _),
-                                                            (
-                                                              (λ a b. two _),
-                                                              (tt, (tt, (tt, (tt, tt)))),
-                                                            ),
-                                                          ),
-                                                        ),
-                                                      ),
-                                                    ),
-                                                  ),
-                                                ),
-                                              ),
-                                            ),
-                                          ),
-                                        ),
-                                      ),
-                                    ),
-                                  ),
-                                ),
-                              ),
-                            ),
-                          ),
-                        ),
-                      ),
-                    ),
-                  ),
-                ),
-              ),
-            ),
-          ),
-        ),
-      ),
-    ),
-  ),
-)
+operations_fit = search (rules, two)
 
-fits_in : (rows : List (ℕ × Form)) (opcode : ℕ) (form : Form) → AllFit rows → lookup (nat_eq opcode) rows ≡ Some form → Fits form (rule_at opcode (op_rules 32))
+fits_in : (rows : List (ℕ × Form)) (opcode : ℕ) (form : Form) → AllFit rows → lookup (nat_eq opcode) rows ≡ Some form
+    → Fits form (rule_at opcode (op_rules 32))
 fits_in [] opcode form all e = absurd (cc)
 fits_in (row ∷ rows) opcode form all e =
     elim (eqb_tells opcode row.0) [
@@ -299,13 +156,15 @@ booleans form rule wss fits gives = absurd fits
 -- ---- the operations
 
 -- an operation takes operands of its form
-pub form_can_eval : (opcode : ℕ) (form : Form) (c : ℕ) (wss : List (List ℕ)) → lookup (nat_eq opcode) spec_operations ≡ Some form → AreOperands form c wss
+pub form_can_eval : (opcode : ℕ) (form : Form) (c : ℕ) (wss : List (List ℕ)) → lookup (nat_eq opcode) spec_operations ≡ Some form
+    → AreOperands form c wss
     → CanEval 32 opcode wss
 unfolding CanEval
 form_can_eval opcode form c wss e all = suits form (rule_at opcode (op_rules 32)) c wss (rule_fits opcode form e) all
 
 -- the result has c words
-pub eval_sized : (opcode : ℕ) (form : Form) (c : ℕ) (wss : List (List ℕ)) → lookup (nat_eq opcode) spec_operations ≡ Some form → AreOperands form c wss
+pub eval_sized : (opcode : ℕ) (form : Form) (c : ℕ) (wss : List (List ℕ)) → lookup (nat_eq opcode) spec_operations ≡ Some form
+    → AreOperands form c wss
     → length (Eval 32 opcode wss) ≡ c
 unfolding Eval
 eval_sized opcode form c wss e all = sized form (rule_at opcode (op_rules 32)) c wss (rule_fits opcode form e) all

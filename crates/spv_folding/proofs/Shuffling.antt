@@ -54,4 +54,10 @@ filled_all f xs i h =
 
 pub length-filled : (f : ℕ → ℕ) (xs : List ℕ) (i : ℕ) → i ≤ length xs → length (filled f xs i) ≡ length xs
 length-filled f xs i h =
-    omega (arith, length-append (map f (take i xs)) (replicate (length xs - i) 0), length-map (take i xs) f, length-take-le i xs h, length-replicate {A = ℕ} (length xs - i) 0)
+    omega (
+      arith,
+      length-append (map f (take i xs)) (replicate (length xs - i) 0),
+      length-map (take i xs) f,
+      length-take-le i xs h,
+      length-replicate {A = ℕ} (length xs - i) 0,
+    )

@@ -10,7 +10,11 @@ use spv_value::{Operand, eval};
 /// The literal of a shuffle that picks no component.
 const NO_COMPONENT: u32 = 0xFFFF_FFFF;
 
-/// The result of the instruction `opcode` at constant operands, component by component, in at most four words.
+/// The result of the instruction `opcode` at constant operands, component by component: whole-number arithmetic
+/// modulo 2^32, where division by zero and shifts by 32 or more give 0.
+///
+/// `opcode` is an instruction that `spv_value` evaluates, with a result of at most four words. Each operation
+/// that OpSpecConstantOp may name is one, but for shuffles, extractions and insertions, at operands of its form.
 pub fn evaluate(opcode: u16, input: &[Operand]) -> Operand
     requires suited { CanEval 32 opcode (operands input.now) }
     requires few { length (Eval 32 opcode (operands input.now)) ≤ 4 }

@@ -25,6 +25,10 @@ groups_on groups words = record (on words) { groups = groups }
 abbrev pub handed : List Access → List (List ℕ)
 handed accesses = map (λ a. a.operands) accesses
 
+-- the semantics of each
+abbrev pub ordered : List Access → List (List (List ℕ))
+ordered accesses = map (λ a. a.semantics) accesses
+
 -- ---- invocations that share a buffer and a Workgroup variable
 
 -- the number of an invocation is 11, its own word of the buffer is at 12, and a Workgroup variable at 7; a workgroup has so many invocations
@@ -77,6 +81,26 @@ meeting =
     (says.Atomic op.ATOMIC_I_ADD (20 ∷ []) (14 ∷ []) 7 32 (30 ∷ []) (31 ∷ [])
     ∷ says.ControlBarrier 32 32 30
     ∷ says.Load 20 15 7 []
+    ∷ says.Store 12 15 []
+    ∷ [])
+
+-- the only one exchanges 1 for a 2 in word 2, and stores what was there in its own word
+abbrev pub exchanging : List Statement
+exchanging =
+    sharing 1
+    (says.AccessChain 22 13 6 (30 ∷ 32 ∷ [])
+    ∷ says.Atomic op.ATOMIC_COMPARE_EXCHANGE (20 ∷ []) (14 ∷ []) 13 31 (30 ∷ 32 ∷ []) (31 ∷ 32 ∷ [])
+    ∷ says.Store 12 14 []
+    ∷ [])
+
+-- the only one adds 1 to its word, stores 2 there, reads it, and stores what the addition and the reading found, both as atomics but for the last
+abbrev pub stepping : List Statement
+stepping =
+    sharing 1
+    (says.Atomic op.ATOMIC_I_INCREMENT (20 ∷ []) (14 ∷ []) 12 31 (32 ∷ []) []
+    ∷ says.Atomic op.ATOMIC_STORE [] [] 12 31 (30 ∷ []) (32 ∷ [])
+    ∷ says.Atomic op.ATOMIC_LOAD (20 ∷ []) (15 ∷ []) 12 31 (30 ∷ []) []
+    ∷ says.Store 12 14 []
     ∷ says.Store 12 15 []
     ∷ [])
 

@@ -14,5 +14,7 @@ pub use facts::{
     facts_of_two_invocations, facts_of_volatility, facts_of_wrong_passes,
 };
 pub use laws::{schedules_law, silence_law, strip_law};
-pub use memory_facts::{facts_of_builtins, facts_of_classes, facts_of_lengths, facts_of_sharing};
+pub use memory_facts::{
+    facts_of_atomics, facts_of_builtins, facts_of_classes, facts_of_lengths, facts_of_sharing,
+};
 pub use value_facts::{facts_of_sizes, facts_of_switches, facts_of_values};

@@ -9,7 +9,7 @@ ghost use Rattle.spv_machine.specs.Setting.{setting, builtin_words};
 ghost use Rattle.spv_machine.specs.Machine.{trace_in, EndsIn, FinalsIn, Finals};
 ghost use Rattle.spv_machine.specs.Doubling.{doubling_by_two, on, buffer};
 ghost use Rattle.spv_machine.specs.Facts.{at_word, doubling_load, doubling_store, group, pairs_type, pairs};
-ghost use Rattle.spv_machine.specs.Shaders.{triple, groups_on, handed, counting, finding, meeting, stored_under, through, put_through, put_in_function, in_a_buffer, in_a_block, pushed, telling, measuring};
+ghost use Rattle.spv_machine.specs.Shaders.{triple, groups_on, handed, ordered, exchanging, stepping, counting, finding, meeting, stored_under, through, put_through, put_in_function, in_a_buffer, in_a_block, pushed, telling, measuring};
 
 /// A chain into a variable of each storage class: by strides and offsets into buffers, uniform blocks and push
 /// constants, and packed into the others. A variable of a function or an invocation begins as zeros and keeps what is
@@ -50,6 +50,18 @@ pub fn facts_of_lengths()
     ensures nowhere { array_length storage_class.STORAGE_BUFFER (Some 6) pairs_type None 1 ≡ 0 }
     ensures no_array { array_length storage_class.STORAGE_BUFFER (Some 6) pairs_type pairs 0 ≡ 0 }
     ensures any_buffer { (words : List ℕ) → handed (trace_in (setting measuring (on words)) 0 4 ([] ∷ [])).accesses ≡ ((length words - 1) / 2 % 2 ^ 32 ∷ []) ∷ [] }
+{}
+
+/// A compare and exchange writes its value where the old word is the comparator, and has the semantics of both. What an
+/// atomic answers is its result; an increment and a load have no value, and a store has no result.
+#[tactic(auto, unfolding(crate::specs::Setting::setting, crate::specs::Places::locate, crate::specs::Operations::outcome, crate::specs::Steps::look, crate::specs::Steps::first_state))]
+pub fn facts_of_atomics()
+    ensures exchanges { FinalsIn (setting exchanging (on (0 ∷ 0 ∷ 2 ∷ []))) (buffer (2 ∷ 0 ∷ 1 ∷ [])) }
+    ensures keeps { FinalsIn (setting exchanging (on (0 ∷ 0 ∷ 3 ∷ []))) (buffer (3 ∷ 0 ∷ 3 ∷ [])) }
+    ensures hands_over { handed (trace_in (setting exchanging (on (0 ∷ 0 ∷ 2 ∷ []))) 0 7 ((5 ∷ []) ∷ [] ∷ [])).accesses ≡ (1 ∷ 2 ∷ []) ∷ (5 ∷ []) ∷ [] }
+    ensures semantics { ordered (trace_in (setting exchanging (on (0 ∷ 0 ∷ 2 ∷ []))) 0 7 ((5 ∷ []) ∷ [] ∷ [])).accesses ≡ ((0 ∷ []) ∷ (2 ∷ []) ∷ []) ∷ [] ∷ [] }
+    ensures steps { handed (trace_in (setting stepping (on (0 ∷ []))) 0 9 ((5 ∷ []) ∷ [] ∷ (6 ∷ []) ∷ [] ∷ [] ∷ [])).accesses ≡ [] ∷ (2 ∷ []) ∷ [] ∷ (5 ∷ []) ∷ (6 ∷ []) ∷ [] }
+    ensures orders { ordered (trace_in (setting stepping (on (0 ∷ []))) 0 9 ((5 ∷ []) ∷ [] ∷ (6 ∷ []) ∷ [] ∷ [] ∷ [])).accesses ≡ ((2 ∷ []) ∷ []) ∷ ((0 ∷ []) ∷ []) ∷ ((0 ∷ []) ∷ []) ∷ [] ∷ [] ∷ [] }
 {}
 
 /// Two invocations that add to one word leave both additions there, and each finds what the other left or not, as the

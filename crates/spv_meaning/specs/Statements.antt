@@ -143,6 +143,10 @@ flow_rows =
 abbrev pub atomic : (opcode : ℕ) → ℕ × (List ℕ → Statement)
 atomic opcode = (opcode, λ ws. Atomic opcode (take 1 ws) (take 1 (drop 1 ws)) (slice_index ws 2) (slice_index ws 3) (take 1 (drop 4 ws)) (drop 5 ws))
 
+-- with two semantics, a value and a comparator
+abbrev pub compare_exchange : List ℕ → Statement
+compare_exchange ws = Atomic op.ATOMIC_COMPARE_EXCHANGE (take 1 ws) (take 1 (drop 1 ws)) (slice_index ws 2) (slice_index ws 3) (take 2 (drop 4 ws)) (drop 6 ws)
+
 abbrev pub memory_rows : Rows
 memory_rows =
     (op.ACCESS_CHAIN, λ ws. AccessChain (slice_index ws 0) (slice_index ws 1) (slice_index ws 2) (drop 3 ws))
@@ -153,8 +157,7 @@ memory_rows =
     ∷ (op.CONTROL_BARRIER, λ ws. ControlBarrier (slice_index ws 0) (slice_index ws 1) (slice_index ws 2))
     ∷ (op.MEMORY_BARRIER, λ ws. MemoryBarrier (slice_index ws 0) (slice_index ws 1))
     ∷ (op.ATOMIC_STORE, λ ws. Atomic op.ATOMIC_STORE [] [] (slice_index ws 0) (slice_index ws 1) (take 1 (drop 2 ws)) (drop 3 ws))
-    ∷ (op.ATOMIC_COMPARE_EXCHANGE, λ ws.
-        Atomic op.ATOMIC_COMPARE_EXCHANGE (take 1 ws) (take 1 (drop 1 ws)) (slice_index ws 2) (slice_index ws 3) (take 2 (drop 4 ws)) (drop 6 ws))
+    ∷ (op.ATOMIC_COMPARE_EXCHANGE, compare_exchange)
     ∷ map atomic
     (op.ATOMIC_LOAD ∷ op.ATOMIC_EXCHANGE ∷ op.ATOMIC_I_INCREMENT ∷ op.ATOMIC_I_DECREMENT ∷ op.ATOMIC_I_ADD ∷ op.ATOMIC_I_SUB ∷ op.ATOMIC_S_MIN ∷ op.ATOMIC_U_MIN
     ∷ op.ATOMIC_S_MAX ∷ op.ATOMIC_U_MAX ∷ op.ATOMIC_AND ∷ op.ATOMIC_OR ∷ op.ATOMIC_XOR ∷ [])

@@ -85,7 +85,7 @@ abbrev mutual
   pub member_spots : (laid : Bool) (packed : ℕ) → Members → List ℕ
   member_spots laid packed NoMember = []
   member_spots laid packed (Member offset volatile t rest) =
-    moved_by (cond laid (in_words offset) packed) (spots laid t) ++ member_spots laid (packed + cells t) rest
+      moved_by (cond laid (in_words offset) packed) (spots laid t) ++ member_spots laid (packed + cells t) rest
 
 -- words as one number, the lowest first
 abbrev pub number_in : List ℕ → ℕ

@@ -1,3 +1,11 @@
 pub mod Room
 pub mod Standing
 pub mod WordLemmas
+pub mod Constituents
+pub mod Reading
+pub mod ArrayLengths
+pub mod KnownLengths
+pub mod ConstantRules
+pub mod Lengths
+pub mod Members
+pub mod DeclaredTypes

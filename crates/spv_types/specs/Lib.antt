@@ -1,3 +1,6 @@
 pub mod Facts
 pub mod Meanings
+pub mod Members
 pub mod Steps
+pub mod Search
+pub mod Progress

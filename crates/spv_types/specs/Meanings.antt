@@ -1,5 +1,5 @@
 -- What is kept of the meanings of ids: entry by entry, it stands for the table's.
-use Rattle.std.specs.Prelude.{◌≡◌, ℕ, zero, suc, ◌+◌, ◌<◌, Bool, true, false, List, [], ◌∷◌, ◌++◌, map, length, replicate, slice_get, Option, Some, None}
+use Rattle.std.specs.Prelude.{◌≡◌, ℕ, zero, suc, ◌+◌, ◌<◌, Bool, true, false, not, List, [], ◌∷◌, ◌++◌, map, length, replicate, slice_get, Option, Some, None}
 use Rattle.spv_value.specs.Words.{words_of}
 use Rattle.spv_meaning.specs.Constants.{Table, Meaning, IsType, IsPointer, IsConstant, IsVariable}
 use Rattle.spv_meaning.specs.Types.{DataType, Void, Boolean, Integer, Vector}
@@ -86,3 +86,8 @@ cells_of_constant (Some c) = c.cells
 -- the entries stand for those of some table
 abbrev pub Stand : List (ℕ × Kept) → Type 0
 Stand ks = (table : Table) × (ids : List ℕ) × StandFor table ids ks
+
+-- whether a constant is kept that is Known
+abbrev pub known_of_kept : Option Kept → Bool
+known_of_kept (Some (kept.Constant c)) = not c.is_specialised
+known_of_kept k = false

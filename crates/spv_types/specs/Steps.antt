@@ -5,7 +5,7 @@ use Rattle.spv_module.specs.Instruction.{Instruction, opcode}
 use Rattle.spv_meaning.specs.Constants.{Table, Meaning, IsConstant, meaning}
 use Rattle.spv_meaning.specs.Types.{DataType, Integer}
 use Rattle.spv_ids.specs.Ids.{word_of, names_unknown}
-use Rattle.spv_typing.specs.Kinds.{is_one_of, type_of}
+use Rattle.spv_typing.specs.Kinds.{is_one_of, type_of, is_array, length_id}
 use Rattle.spv_typing.specs.Types.{type_fits}
 use Rattle.spv_typing.specs.Operations.{spec_op_fits}
 use Rattle.spv_declarations.specs.Constants.{constant_fits}
@@ -39,6 +39,10 @@ pub record IsNext (insts : List Instruction) (k : ℕ) (i : Instruction) : Type 
 -- an id is a constant of one word, by the type that its instruction names
 abbrev pub IsLength : List Instruction → Table → (id : ℕ) → Type 0
 IsLength insts table id = (word : ℕ) × (meaning table id ≡ Some (IsConstant (Integer 32 (word_of insts (type_of insts id) 3 == 1)) (word ∷ [])))
+
+-- where the type of what the instruction defines is an array, the array's length is such a constant
+abbrev pub ArrayIsKnown : List Instruction → Table → Instruction → Type 0
+ArrayIsKnown insts table i = is_array insts (slice_index i.words 1) ≡ true → IsLength insts table (length_id insts (slice_index i.words 1))
 
 -- what is kept of a type stands for what the type is; of an array's only where its length is known to be one word
 pub record KeepsType (insts : List Instruction) (table : Table) (i : Instruction) (kept : Kept) : Type 0 where

@@ -131,6 +131,6 @@ form_fits insts None t ids = false
 form_fits insts (Some form) t ids = operands_fit insts form t ids
 
 -- an OpSpecConstantOp names an operation of these, which its operands and its result's type fit; every other instruction passes
-abbrev pub spec_op_fits : List Instruction → Instruction → Bool
+unfoldable pub spec_op_fits : List Instruction → Instruction → Bool
 spec_op_fits insts i =
     not (opcode i == op.SPEC_CONSTANT_OP) || form_fits insts (form_of (slice_index i.words 3)) (slice_index i.words 1) (drop 4 i.words)

@@ -43,7 +43,7 @@ abbrev pub function_fits : List Instruction → (result_type : ℕ) → (paramet
 function_fits insts result_type parameters = (is_void insts result_type || is_data insts result_type) && list_all (parameter_fits insts) parameters
 
 -- a type is made of what it may be made of; every other instruction passes
-abbrev pub type_fits : List Instruction → Instruction → Bool
+unfoldable pub type_fits : List Instruction → Instruction → Bool
 type_fits insts i =
     cond (opcode i == op.TYPE_INT) (int_fits (slice_index i.words 2) (slice_index i.words 3))
     (cond (opcode i == op.TYPE_VECTOR) (vector_fits insts (slice_index i.words 2) (slice_index i.words 3))

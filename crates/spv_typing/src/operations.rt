@@ -271,6 +271,7 @@ fn operands_fit(kinds: &Kinds, form: Form, t: u32, operands: &[u32]) -> bool
 
 /// Whether an OpSpecConstantOp names an operation that it may, on constants that suit it, with a result that
 /// suits it: a scalar or a vector. Every other instruction fits.
+#[tactic(auto, unfolding(crate::specs::Operations::spec_op_fits))]
 pub fn spec_op_fits(kinds: &Kinds, inst: &View) -> bool
     ensures { result ≡ operations.spec_op_fits kinds.now (seen inst.now) }
 {

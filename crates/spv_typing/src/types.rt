@@ -94,6 +94,7 @@ fn function_fits(kinds: &Kinds, result_type: u32, parameters: &[u32]) -> bool
 
 /// Whether a type is made of what it may be made of. Every instruction that makes no type fits. Whether a type
 /// occurs twice is not asked.
+#[tactic(auto, unfolding(crate::specs::Types::type_fits))]
 pub fn type_fits(kinds: &Kinds, inst: &View) -> bool
     ensures { result ≡ types.type_fits kinds.now (seen inst.now) }
 {

@@ -1,4 +1,4 @@
-use Rattle.std.proofs.Common.{arith, rules}
+use Rattle.std.proofs.Common.{arith}
 use Rattle.spv_module.specs.View.{seen}
 use Rattle.spv_decorations.proofs.Reading.{has-none_members, has-more_members}
 use Rattle.spv_decorations.proofs.decorations.members_of.Goals as goal

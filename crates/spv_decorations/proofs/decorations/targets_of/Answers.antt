@@ -1,4 +1,4 @@
-use Rattle.std.proofs.Common.{arith, rules}
+use Rattle.std.proofs.Common.{arith}
 use Rattle.spv_module.specs.View.{seen}
 use Rattle.spv_decorations.proofs.Reading.{has-none_targets, has-more_targets}
 use Rattle.spv_decorations.proofs.decorations.targets_of.Goals as goal
