@@ -1,5 +1,5 @@
 -- The steps from bytes to a module and back answer what is said of the bytes.
-use Rattle.std.proofs.Common.{◌≡◌, ℕ, ◌≤◌, List, length, Option, Some, None, Result, Ok, Err, refl, sym, ap, subst, ◌∙◌}
+use Rattle.std.proofs.Common.{◌≡◌, ℕ, ◌≤◌, List, length, Option, Some, None, Result, Ok, Err, sym, ap, subst, ◌∙◌}
 use Rattle.std.specs.Bool.{⊤}
 use Rattle.spv_base.specs.declared.fault.Fault.{Fault}
 use Rattle.spv_base.specs.declared.fault.Fault.TheVariants as faults
@@ -16,7 +16,7 @@ use Rattle.spv_module.specs.Layout.{RisesTo}
 use Rattle.spv_words.specs.declared.fault.WordsFault.{WordsFault}
 use Rattle.spv_words.specs.declared.fault.WordsFault.TheVariants.{ShortInput, OddLength, NotSpirv, NoMemory}
 use Rattle.spv_words.specs.Words.{Reads, words_in, bytes_of_words}
-use Rattle.opt_top.specs.Answer.{byte_rule, at, first_in_module, in_rules, of_words, module_in, written_of, answer_of, stripped, Answers, AnswersModule, Finds, ByteFault}
+use Rattle.opt_top.specs.Answer.{in_rules, of_words, module_in, written_of, answer_of, stripped, Answers, AnswersModule, Finds, ByteFault}
 
 -- what is looked at behind `decode`: the rules on declarations, then the form
 abbrev pub behind_decode : (end : ℕ) → List Instruction → Option Refusal

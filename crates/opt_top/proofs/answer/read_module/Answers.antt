@@ -1,4 +1,4 @@
-use Rattle.std.proofs.Common.{◌≡◌, ℕ, ◌≤◌, ◌∙◌, List, length, sym, ap, subst, Result, Ok, Err, arith}
+use Rattle.std.proofs.Common.{ℕ, ◌≤◌, ◌∙◌, List, length, sym, ap, subst, Ok, Err}
 use Rattle.std.proofs.lemmas.Result.{err_from_is_err_and}
 use Rattle.spv_module.specs.Decode.{Decodes}
 use Rattle.opt_top.proofs.Answering.{bytes_refused, decode_refused, decoded_rises, module_admitted, module_broken}
