@@ -12,7 +12,7 @@ use Rattle.spv_ids.specs.Ids.{defines, kind, word_of, is_defined_before}
 use Rattle.spv_typing.specs.Kinds.{is_one_of, constants, data_types, is_int, is_data, is_runtime_array, is_constant, is_outside, type_of, has_type}
 use Rattle.spv_declarations.specs.Constants.{composite_fits, are_of}
 use Rattle.spv_declarations.specs.Declarations.{Declared, nothing_declared, declare, declare_all, declared_before, says, entry}
-use Rattle.spv_declarations.specs.Sound.{AreInstructions, Unbroken, IsBefore, table_before, IsSoundType, IsSoundConstant}
+use Rattle.spv_declarations.specs.Sound.{AreInstructions, WordsFit, Unbroken, IsBefore, table_before, IsSoundType, IsSoundConstant}
 use Rattle.spv_declarations.proofs.Defining.{entry-gives, suits_meaning}
 use Rattle.spv_declarations.proofs.Tables.{no_meaning}
 use Rattle.spv_declarations.proofs.Meanings.{DefinedAt, defined_at, not_begun, meaning_in, meaning-at}
@@ -23,7 +23,7 @@ use Rattle.spv_declarations.proofs.SoundConstants.{Holds, Setting, constant_hold
 use Rattle.spv_declarations.proofs.Words.{AreWordsOf, words-cells, words-number}
 use Rattle.spv_declarations.proofs.EvaluatedWords.{any_word, any_rules}
 use Rattle.spv_declarations.proofs.OperationWords.{operations_hold}
-use Rattle.spv_declarations.proofs.FittingWords.{fits_word, fitting_rules, WordsFit}
+use Rattle.spv_declarations.proofs.FittingWords.{fits_word, fitting_rules}
 use Rattle.spv_declarations.proofs.SoundShapes.{shaped, shaped-booleans, shaped-number}
 use Rattle.spv_typing.specs.declared.shapes.Shape.{Shape}
 use Rattle.spv_typing.specs.Operations.{shape}
@@ -60,7 +60,7 @@ fitting_constant insts whole fit k id clean outside before h =
     constant_holds fits_word insts
     (record { whole = whole; zero_word = omega arith; words = fit; operations = operations_hold fits_word (omega arith) fitting_rules insts whole }) k id clean outside before h
 
-same_words : (m : Option Meaning) (t u : DataType) (ws vs : List ℕ) → m ≡ Some (IsConstant t ws) → m ≡ Some (IsConstant u vs) → ws ≡ vs
+pub same_words : (m : Option Meaning) (t u : DataType) (ws vs : List ℕ) → m ≡ Some (IsConstant t ws) → m ≡ Some (IsConstant u vs) → ws ≡ vs
 same_words m t u ws vs e f = cc
 
 -- the words of a constant whose type is of booleans
@@ -167,7 +167,7 @@ undefined_outside insts k id d outside is_o =
     stands_outside insts d.place id d.inst d.at (sym (begun-all (says insts) nothing_declared (take d.place insts)) ∙ outside)
     (no_function_at d.inst op.UNDEF is_o refl) d.new d.defines_it
 
-entry_is : (e : Option (ℕ × Meaning)) (m : Meaning) → meaning_in e ≡ Some m → (r : ℕ) × (e ≡ Some (r, m))
+pub entry_is : (e : Option (ℕ × Meaning)) (m : Meaning) → meaning_in e ≡ Some m → (r : ℕ) × (e ≡ Some (r, m))
 entry_is None m h = cc
 entry_is (Some e) m h =
     let same : e.1 ≡ m = cc in

@@ -1,6 +1,6 @@
 -- Words below 2 ^ 32: what operations make of such words is such words.
-use Rattle.std.proofs.Common.{◌≡◌, ℕ, ◌*◌, ◌/◌, ◌%◌, ◌^◌, ◌<◌, Bool, true, false, cond, ◌==◌, nat_lt, List, Some, sym, subst, arith, rules}
-use Rattle.std.specs.Prelude.{ℤ, pos, negsuc, neg_ℤ, ◌+ℤ◌, ◌-ℤ◌, ◌*ℤ◌, int_div, int_rem, slice_get, slice_index}
+use Rattle.std.proofs.Common.{ℕ, ◌*◌, ◌/◌, ◌%◌, ◌^◌, ◌<◌, Bool, true, false, cond, ◌==◌, nat_lt, sym, subst, arith, rules}
+use Rattle.std.specs.Prelude.{ℤ, pos, negsuc, neg_ℤ, ◌+ℤ◌, ◌-ℤ◌, ◌*ℤ◌, int_div, int_rem}
 use Rattle.std.proofs.Math.Nat.{div-le_self, mod-le}
 use Rattle.std.proofs.lemmas.Nat.{or_of_32, xor_of_32, and_le_l}
 use Rattle.spv_value.specs.Numbers.{signed, wrapped, div_down}
@@ -9,7 +9,7 @@ use Rattle.spv_value.specs.Bits.{bitwise_or, bitwise_xor, bitwise_and, bitwise_n
 use Rattle.spv_value.specs.Compare.{i_equal, i_not_equal, u_less_than, u_less_than_equal, u_greater_than, u_greater_than_equal, s_less_than, s_less_than_equal, s_greater_than, s_greater_than_equal, logical_not, logical_and, logical_or}
 use Rattle.spv_value.specs.Eval.{op_rules}
 use Rattle.spv_value.proofs.BitLists.{bitwise_or_is, bitwise_and_is, bitwise_xor_is}
-use Rattle.spv_module.specs.Instruction.{Instruction}
+pub use Rattle.spv_declarations.specs.Sound.{WordsFit}
 use Rattle.spv_declarations.proofs.EvaluatedWords.{RulesHold, two}
 
 abbrev pub fits_word : ℕ → Type 0
@@ -97,7 +97,3 @@ pub fitting_rules : RulesHold fits_word
 unfolding op_rules i_equal i_not_equal u_less_than u_less_than_equal u_greater_than u_greater_than_equal s_less_than s_less_than_equal s_greater_than s_greater_than_equal logical_not logical_and logical_or
 fitting_rules =
     search (rules, two, negate_fits, not_fits, add_fits, sub_fits, mul_fits, u_div_fits, u_mod_fits, s_div_fits, s_rem_fits, s_mod_fits, right_fits, arithmetic_fits, left_fits, or_fits, xor_fits, and_fits)
-
--- each word of each instruction
-abbrev pub WordsFit : List Instruction → Type 0
-WordsFit insts = (k : ℕ) (i : Instruction) → slice_get insts k ≡ Some i → (n : ℕ) → slice_index i.words n < 2 ^ 32

@@ -18,3 +18,5 @@ pub mod OperationWords
 pub mod FittingWords
 pub mod Consequences
 pub mod Functions
+pub mod Whole
+pub mod Modules

@@ -17,7 +17,7 @@ use Rattle.spv_ids.specs.Ids.{kind, is_defined_before}
 use Rattle.spv_typing.specs.Kinds.{is_one_of, constants, is_bool, is_int, is_vector, is_array, is_struct, is_closed, is_spec, is_constant, is_outside, type_of, component, component_count, element, length_id, members, has_type}
 use Rattle.spv_typing.specs.declared.operations.Form.{Form}
 use Rattle.spv_typing.specs.Operations.{spec_operations, operands_fit}
-use Rattle.spv_declarations.specs.Constants.{composite_fits, has_length, are_of}
+use Rattle.spv_declarations.specs.Constants.{constant_fits, composite_fits, has_length, are_of}
 use Rattle.spv_declarations.specs.Declarations.{Declared, declared_before, says}
 use Rattle.spv_declarations.specs.Sound.{AreInstructions, Unbroken, IsBefore, table_before, IsSoundType}
 use Rattle.spv_declarations.proofs.Parts.{first_typed, row_test, typed-words, TypedParts, typed-parts}
@@ -62,14 +62,15 @@ constant_rule insts d o words =
     cond (is_one_of (op.CONSTANT_TRUE ∷ op.CONSTANT_FALSE ∷ op.SPEC_CONSTANT_TRUE ∷ op.SPEC_CONSTANT_FALSE ∷ []) o) (is_bool insts t)
     (cond (is_one_of (op.CONSTANT ∷ op.SPEC_CONSTANT ∷ []) o) (is_int insts t && length (drop 3 words) == 1)
     (cond (o == op.CONSTANT_NULL) (is_closed insts t)
-    (cond (o == op.UNDEF) (d.begun || is_closed insts t)
+    (cond (o == op.UNDEF) (is_closed insts t)
     (cond (o == op.SPEC_CONSTANT_COMPOSITE) (composite_fits insts d t (drop 3 words))
     (cond (o == op.CONSTANT_COMPOSITE) (composite_fits insts d t (drop 3 words) && list_all (λ id. not (is_spec insts id)) (drop 3 words))
     true)))))
 
 pub constant-rule : (insts : List Instruction) (k id o : ℕ) (s : Site insts k id o) →
     constant_rule insts (declared_before insts s.d.place) o s.d.inst.words ≡ true
-constant-rule insts k id o s = sym (ap (λ (n : ℕ). constant_rule insts (declared_before insts s.d.place) n s.d.inst.words) s.is_o) ∙ s.kept.constants
+constant-rule insts k id o s = sym (ap (λ (n : ℕ). constant_rule insts (declared_before insts s.d.place) n s.d.inst.words) s.is_o)
+    ∙ sym (ap (λ b. b || constant_fits insts (declared_before insts s.d.place) s.d.inst) s.outside) ∙ s.kept.constants
 
 -- ---- its type
 

@@ -1,5 +1,5 @@
 -- What an instruction keeps to that breaks no rule.
-use Rattle.std.proofs.Common.{◌≡◌, ℕ, Bool, true, false, cond, not, ◌&&◌, List, [], ◌++◌, None, refl}
+use Rattle.std.proofs.Common.{◌≡◌, ℕ, Bool, true, false, cond, not, ◌&&◌, ◌||◌, List, [], ◌++◌, None, refl}
 use Rattle.std.proofs.lemmas.Bool.{and_parts, not-true, or_parts}
 use Rattle.spv_module.specs.Code.{is_line}
 use Rattle.spv_module.specs.First.{unless}
@@ -22,7 +22,7 @@ pub record Keeps (insts : List Instruction) (d : Declared) (k : ℕ) (i : Instru
   pub known : names_unknown insts d.begun k i ≡ false
   pub types : type_fits insts i ≡ true
   pub new_type : occurs_before insts k i ≡ false
-  pub constants : constant_fits insts d i ≡ true
+  pub constants : (d.begun || constant_fits insts d i) ≡ true
   pub operations : spec_op_fits insts i ≡ true
   pub decorations : decoration_fits insts i ≡ true
   pub layouts : layout_fits d i ≡ true
@@ -46,7 +46,7 @@ keeps insts d k i plain h =
     (first_nil (id_rules insts d.begun k i) (declaration_rules insts d k i) all) in
     let r3 = second_nil (id_rules insts d.begun k i) (declaration_rules insts d k i) all in
     let r4 = second_nil (unless (type_fits insts i && not (occurs_before insts k i)) 303) _ r3 in
-    let r5 = second_nil (unless (constant_fits insts d i) 304) _ r4 in
+    let r5 = second_nil (unless (d.begun || constant_fits insts d i) 304) _ r4 in
     let r6 = second_nil (unless (spec_op_fits insts i) 305) _ r5 in
     let r7 = second_nil (unless (decoration_fits insts i && not (repeats_before insts k i)) 306) _ r6 in
     let r8 = second_nil (unless (layout_fits d i) 307) _ r7 in
@@ -62,7 +62,7 @@ keeps insts d k i plain h =
       known = not-true (names_unknown insts d.begun k i) (passes _ 302 (second_nil (unless (not (is_second insts k i)) 301) _ ids));
       types = types_both.0;
       new_type = not-true (occurs_before insts k i) types_both.1;
-      constants = passes _ 304 (first_nil (unless (constant_fits insts d i) 304) _ r4);
+      constants = passes _ 304 (first_nil (unless (d.begun || constant_fits insts d i) 304) _ r4);
       operations = passes _ 305 (first_nil (unless (spec_op_fits insts i) 305) _ r5);
       decorations = decorations_both.0;
       layouts = passes _ 307 (first_nil (unless (layout_fits d i) 307) _ r7);

@@ -1,11 +1,11 @@
 -- The broken rules of the third group: ids, types, constants, decorations and global variables.
-use Rattle.std.specs.Prelude.{ℕ, ◌+◌, Bool, true, false, cond, ◌==◌, ◌&&◌, ◌||◌, not, nat_le, List, [], ◌∷◌, ◌++◌, slice_index, Option, Some, None}
+use Rattle.std.specs.Prelude.{ℕ, ◌+◌, Bool, true, cond, ◌==◌, ◌&&◌, ◌||◌, not, nat_le, List, [], ◌∷◌, ◌++◌, slice_index, Option, Some, None}
 use Rattle.spv_base.specs.declared.fault.Refusal.{Refusal}
 use Rattle.spv_opcodes.specs.declared.op.TheConstants as op
 use Rattle.spv_module.specs.Code.{is_line}
 use Rattle.spv_module.specs.First.{here, unless}
 use Rattle.spv_module.specs.Instruction.{Instruction, opcode}
-use Rattle.spv_meaning.specs.Constants.{Table, Meaning, IsType, pointer_at}
+use Rattle.spv_meaning.specs.Constants.{Meaning, IsType, pointer_at}
 use Rattle.spv_meaning.specs.Meanings.{is_laid}
 use Rattle.spv_ids.specs.Ids.{id_rules}
 use Rattle.spv_repeats.specs.Repeats.{occurs_before, repeats_before}
@@ -32,7 +32,7 @@ layout_fits d i =
 abbrev pub declaration_rules : List Instruction → Declared → (k : ℕ) → Instruction → List ℕ
 declaration_rules insts d k i =
     unless (type_fits insts i && not (occurs_before insts k i)) 303
-    ++ (unless (constant_fits insts d i) 304
+    ++ (unless (d.begun || constant_fits insts d i) 304
     ++ (unless (spec_op_fits insts i) 305
     ++ (unless (decoration_fits insts i && not (repeats_before insts k i)) 306
     ++ (unless (layout_fits d i) 307

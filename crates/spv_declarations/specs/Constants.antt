@@ -1,5 +1,5 @@
--- 304 BadConstant.
-use Rattle.std.specs.Prelude.{ℕ, Bool, true, false, cond, ◌==◌, ◌&&◌, ◌||◌, not, nat_le, List, [], ◌∷◌, length, drop, slice_index}
+-- 304 BadConstant, outside functions.
+use Rattle.std.specs.Prelude.{ℕ, Bool, true, false, cond, ◌==◌, ◌&&◌, not, nat_le, List, [], ◌∷◌, length, drop, slice_index}
 use Rattle.std.specs.List.{list_all}
 use Rattle.spv_opcodes.specs.declared.op.TheConstants as op
 use Rattle.spv_module.specs.Instruction.{Instruction, opcode}
@@ -32,7 +32,7 @@ constant_fits insts d i =
     cond (is_one_of (op.CONSTANT_TRUE ∷ op.CONSTANT_FALSE ∷ op.SPEC_CONSTANT_TRUE ∷ op.SPEC_CONSTANT_FALSE ∷ []) (opcode i)) (is_bool insts t)
     (cond (is_one_of (op.CONSTANT ∷ op.SPEC_CONSTANT ∷ []) (opcode i)) (is_int insts t && length (drop 3 i.words) == 1)
     (cond (opcode i == op.CONSTANT_NULL) (is_closed insts t)
-    (cond (opcode i == op.UNDEF) (d.begun || is_closed insts t)
+    (cond (opcode i == op.UNDEF) (is_closed insts t)
     (cond (opcode i == op.SPEC_CONSTANT_COMPOSITE) (composite_fits insts d t (drop 3 i.words))
     (cond (opcode i == op.CONSTANT_COMPOSITE) (composite_fits insts d t (drop 3 i.words) && list_all (λ id. not (is_spec insts id)) (drop 3 i.words))
     true)))))

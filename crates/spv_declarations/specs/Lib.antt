@@ -3,3 +3,4 @@ pub mod Declarations
 pub mod Constants
 pub mod Broken
 pub mod Sound
+pub mod Laws

@@ -1,19 +1,21 @@
 -- What follows where no instruction so far breaks a rule: what ids are by their instructions is what they stand for.
-use Rattle.std.specs.Prelude.{◌≡◌, ℕ, ◌<◌, ◌≤◌, ◌^◌, Bool, true, false, ◌==◌, List, [], ◌∷◌, length, slice_get, Option, Some, None}
+use Rattle.std.specs.Prelude.{◌≡◌, ℕ, ◌<◌, ◌≤◌, ◌^◌, true, ◌==◌, List, [], length, slice_get, slice_index, Option, Some}
 use Rattle.spv_module.specs.Instruction.{Instruction, IsInstruction, roles}
-use Rattle.spv_value.specs.Eval.{AreBooleanWords}
-use Rattle.spv_meaning.specs.Constants.{Table, Meaning, IsType, IsConstant, meaning, type_at, length_at, members_of}
-use Rattle.spv_meaning.specs.Types.{DataType, Boolean, Integer, Vector, Array, RuntimeArray, Struct, cells}
+use Rattle.spv_meaning.specs.Constants.{Table, IsType, IsConstant, meaning, type_at, length_at, members_of}
+use Rattle.spv_meaning.specs.Types.{Boolean, Integer, Vector, Array, RuntimeArray, Struct, cells}
 use Rattle.spv_ids.specs.Ids.{is_defined_before, word_of}
-use Rattle.spv_typing.specs.Kinds.{is_bool, is_int, is_vector, is_array, is_runtime_array, is_struct, is_constant, type_of, component, component_count, element, length_id, members}
+use Rattle.spv_typing.specs.Kinds.{is_bool, is_int, is_vector, is_array, is_runtime_array, is_struct, type_of, component, component_count, element, length_id, members}
 use Rattle.spv_typing.specs.declared.shapes.Shape.{Shape}
-use Rattle.spv_typing.specs.Operations.{shape}
 use Rattle.spv_declarations.specs.Broken.{rules_at}
-use Rattle.spv_declarations.specs.Declarations.{Declared, declared_before, says, entry}
+use Rattle.spv_declarations.specs.Declarations.{declared_before, says}
 
 -- each has the words and parts of an instruction
 abbrev pub AreInstructions : List Instruction → Type 0
 AreInstructions insts = (k : ℕ) (i : Instruction) → slice_get insts k ≡ Some i → IsInstruction i.words (roles i)
+
+-- each word of each instruction is below 2 ^ 32
+abbrev pub WordsFit : List Instruction → Type 0
+WordsFit insts = (k : ℕ) (i : Instruction) → slice_get insts k ≡ Some i → (n : ℕ) → slice_index i.words n < 2 ^ 32
 
 -- none of the first k breaks a rule
 abbrev pub Unbroken : List Instruction → (k : ℕ) → Type 0

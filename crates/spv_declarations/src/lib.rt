@@ -1,8 +1,9 @@
 //! The rules on types, constants, decorations and global variables of a module, and what its declarations declare.
 //!
-//! The definitions are in `specs/`; the functions here have laws over them as their contracts, and do nothing when they
-//! are called.
+//! The definitions are in `specs/`; each function here has laws or facts over them as its contract, and does nothing
+//! when it is called.
 #![tactic(auto)]
 
-/// Stands in for the laws.
-pub fn law() {}
+mod laws;
+
+pub use laws::{constants_law, declarations_law, types_law};

@@ -9,3 +9,9 @@ pub mod ConstantRules
 pub mod Lengths
 pub mod Members
 pub mod DeclaredTypes
+pub mod ConstantLemmas
+pub mod CompositeLemmas
+pub mod DeclarationLemmas
+pub mod OpcodeLemmas
+pub mod Tests
+pub mod EarlyRules

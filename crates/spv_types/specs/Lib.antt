@@ -3,4 +3,5 @@ pub mod Meanings
 pub mod Members
 pub mod Steps
 pub mod Search
+pub mod Declaring
 pub mod Progress

@@ -87,8 +87,8 @@ fn composite_fits(kinds: &Kinds, meanings: &Meanings, t: u32, ids: &[u32]) -> bo
 }
 
 /// Whether a constant's type suits it, and so do its literal words or its constituents. Every other instruction passes.
-pub fn constant_fits(kinds: &Kinds, meanings: &Meanings, begun: bool, inst: &View) -> bool
-    ensures { (d : Declared) → d.begun ≡ begun → StandFor d.table d.specialised meanings.now.entries → ArrayIsKnown kinds.now d.table (seen inst.now) → result ≡ rules.constant_fits kinds.now d (seen inst.now) }
+pub fn constant_fits(kinds: &Kinds, meanings: &Meanings, inst: &View) -> bool
+    ensures { (d : Declared) → StandFor d.table d.specialised meanings.now.entries → ArrayIsKnown kinds.now d.table (seen inst.now) → result ≡ rules.constant_fits kinds.now d (seen inst.now) }
 {
     let t = word(inst, 1);
     match inst.opcode() {
@@ -96,8 +96,7 @@ pub fn constant_fits(kinds: &Kinds, meanings: &Meanings, begun: bool, inst: &Vie
             kinds.is_bool(t)
         }
         op::CONSTANT | op::SPEC_CONSTANT => kinds.is_int(t) && words_from(inst, 3).len() == 1,
-        op::CONSTANT_NULL => kinds.is_closed(t),
-        op::UNDEF => begun || kinds.is_closed(t),
+        op::CONSTANT_NULL | op::UNDEF => kinds.is_closed(t),
         op::SPEC_CONSTANT_COMPOSITE => composite_fits(kinds, meanings, t, words_from(inst, 3)),
         op::CONSTANT_COMPOSITE => {
             composite_fits(kinds, meanings, t, words_from(inst, 3))

@@ -1,11 +1,16 @@
 //! Types, constants and global variables of a module, and the rules on them.
 #![tactic(auto)]
 
+mod composites;
+mod computed_constant;
+mod constants;
+mod declared_constant;
 mod declared_type;
 pub mod facts;
 pub mod meaning;
-mod constants;
 mod meanings;
+mod operands;
+mod rules;
 mod words;
 
 pub use facts::TypeFacts;

@@ -1,0 +1,91 @@
+// Constants by their ids.
+ghost use Rattle.std.specs.Prelude.{◌≡◌, ℕ, ◌<◌, true, List, [], None, Some, IfSome, IfNone, length, nat_eq};
+ghost use Rattle.std.specs.Map.{lookup};
+ghost use Rattle.std.specs.Option.{option_copied};
+ghost use Rattle.spv_value.specs.Words.{words_of};
+ghost use Rattle.spv_meaning.specs.Constants.{Table, words_at, typed_at};
+ghost use Rattle.spv_types.specs.Facts.{in_64_bits};
+ghost use Rattle.spv_types.specs.Meanings.{StandFor, constant_of_kept, cells_of_constant, is_small};
+ghost use Rattle.spv_types.specs.Declaring.{flag_of, flag_at, IsNumber, IsOperandOf};
+
+use crate::meaning::{Constant, Kept, Value};
+use crate::meanings::Meanings;
+use spv_folding::zeros;
+use spv_value::Operand;
+
+fn constant_in(kept: Option<&Kept>) -> Option<&Constant>
+    ensures { option_copied result ≡ constant_of_kept (option_copied kept.entry) }
+{
+    match kept {
+        Some(Kept::Constant(constant)) => Some(constant),
+        _ => None,
+    }
+}
+
+/// The constant that the id is.
+pub fn constant_of(meanings: &Meanings, id: u32) -> Option<&Constant>
+    ensures { option_copied result ≡ constant_of_kept (lookup (nat_eq id) meanings.now.entries) }
+{
+    constant_in(meanings.get(&id))
+}
+
+fn flag_in(constant: Option<&Constant>) -> bool
+    ensures { result ≡ flag_of (option_copied constant.entry) }
+{
+    match constant {
+        Some(constant) => constant.is_specialised,
+        None => false,
+    }
+}
+
+/// Whether the id is a Specialised constant.
+pub fn is_specialised(meanings: &Meanings, id: u32) -> bool
+    ensures { result ≡ flag_at meanings.now.entries id }
+{
+    flag_in(constant_of(meanings, id))
+}
+
+fn cells_in(constant: Option<&Constant>) -> Option<u64>
+    ensures { result ≡ cells_of_constant (option_copied constant.entry) }
+{
+    match constant {
+        Some(constant) => constant.cells,
+        None => Some(0),
+    }
+}
+
+/// How many words the constant has, and 0 where the id is none. None where that passes 64 bits.
+#[tactic(auto, using(crate::proofs::ConstantLemmas::cells_kept_at))]
+pub fn cells_of(meanings: &Meanings, id: u32) -> Option<u64>
+    ensures { (table : Table) (ids : List ℕ) → StandFor table ids meanings.now.entries → result ≡ in_64_bits (length (words_at table id)) }
+{
+    cells_in(constant_of(meanings, id))
+}
+
+fn operand_in(constant: Option<&Constant>) -> Operand
+    ensures { IsOperandOf (option_copied constant.entry) result }
+{
+    match constant {
+        Some(Constant {
+            value: Value::Small(operand),
+            ..
+        }) => *operand,
+        _ => zeros(0),
+    }
+}
+
+/// The words of the scalar or vector that the id is.
+#[tactic(auto, using(crate::proofs::ConstantLemmas::operand_kept))]
+pub fn operand_of(meanings: &Meanings, id: u32) -> Operand
+    ensures { (table : Table) (ids : List ℕ) → StandFor table ids meanings.now.entries → is_small (typed_at table id).type ≡ true → words_of result ≡ (typed_at table id).words }
+{
+    operand_in(constant_of(meanings, id))
+}
+
+/// The number of the id among the meanings.
+pub fn number_of(meanings: &Meanings, id: u32) -> Option<usize>
+    ensures found { IfSome result (λ n. (table : Table) (ids : List ℕ) → StandFor table ids meanings.now.entries → IsNumber table id n) }
+    ensures absent { IfNone result ((table : Table) (ids : List ℕ) → StandFor table ids meanings.now.entries → words_at table id ≡ []) }
+{
+    meanings.get_index_of(&id)
+}
