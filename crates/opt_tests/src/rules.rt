@@ -193,7 +193,7 @@ fn ids_and_types_are_looked_at(rt: HostRuntime) -> Result<(), Fail> {
 
 #[test]
 fn constants_are_looked_at(rt: HostRuntime) -> Result<(), Fail> {
-    let cases: [&[u32]; 44] = [
+    let cases: [&[u32]; 47] = [
         // a number as a vector
         &[304, 89, 90, 1, 1, 9],
         // true as an integer
@@ -235,9 +235,24 @@ fn constants_are_looked_at(rt: HostRuntime) -> Result<(), Fail> {
         &[
             0, 0, 105, 0, 9, 0x04001c, 22, 8, 15, 0x05002c, 22, 23, 14, 15,
         ],
-        // elements of an array whose length is specialised
+        // elements of an array whose length has a SpecId
         &[
-            304, 113, 105, 0, 13, 0x040032, 8, 22, 2, 0x04001c, 23, 8, 22, 0x05002c, 23, 24, 14, 14,
+            304, 117, 54, 0, 4, 0x040047, 22, 1, 7, 105, 0, 13, 0x040032, 8, 22, 2, 0x04001c, 23,
+            8, 22, 0x05002c, 23, 24, 14, 14,
+        ],
+        // elements of an array whose length is a sum of what has one
+        &[
+            304, 123, 54, 0, 4, 0x040047, 22, 1, 7, 105, 0, 19, 0x040032, 8, 22, 1, 0x060034, 8,
+            23, 128, 22, 22, 0x04001c, 24, 8, 23, 0x05002c, 24, 25, 14, 14,
+        ],
+        // elements of an array whose length could have one
+        &[
+            0, 0, 105, 0, 13, 0x040032, 8, 22, 2, 0x04001c, 23, 8, 22, 0x05002c, 23, 24, 14, 14,
+        ],
+        // elements of an array whose length is a sum
+        &[
+            0, 0, 105, 0, 15, 0x060034, 8, 22, 128, 15, 14, 0x04001c, 23, 8, 22, 0x05002c, 23, 24,
+            14, 14,
         ],
         // no elements of an array of length 0
         &[304, 109, 105, 0, 7, 0x04001c, 22, 8, 14, 0x03002c, 22, 23],
