@@ -28,7 +28,7 @@ returns-in_err-check_module-clause-answer c =
 pub returns-clause-answer : goal.returns-clause-answer
 returns-clause-answer c =
     module_admitted c.args.bytes.now c.as_slice-words.result.now c.in_ok-flat.flat (c.in-Ok.ensures.answer ∙ ap Ok (sym c.as_slice-words.ensures))
-    c.in_ok-flat.ensures.answer c.in_ok-check_module.ensures
+    c.in_ok-flat.ensures.answer c.in_ok-check_module.ensures.0
 
 pub returns-clause-bound : goal.returns-clause-bound
 returns-clause-bound c = decoded-small c.as_slice-words.result.now c.in_ok-flat.flat c.in_ok-flat.ensures.answer c.in_ok-flat.ensures.each
