@@ -2,18 +2,18 @@
 use Rattle.std.proofs.Common.{◌≡◌, ℕ, zero, suc, Bool, true, false, cond, not, ◌&&◌, ◌||◌, List, [], ◌∷◌, ◌++◌, drop, Option, Some, None, refl, sym, ap, subst, ◌∙◌}
 use Rattle.std.specs.Prelude.{nat_eq}
 use Rattle.std.specs.Option.{is_some}
-use Rattle.std.specs.List.{list_any, slice_get, slice_index}
+use Rattle.std.specs.List.{slice_get, slice_index}
 use Rattle.std.proofs.lemmas.Bool.{eqb-true, and_parts, or_from}
 use Rattle.std.proofs.lemmas.List.Folds.{list_any-append}
 use Rattle.spv_opcodes.specs.declared.op.TheConstants as op
 use Rattle.spv_opcodes.specs.declared.decoration.TheConstants as decoration
 use Rattle.spv_grammar.specs.Table.{row_of}
-use Rattle.spv_grammar.specs.Roles.{is_defined_id, is_used_id}
+use Rattle.spv_grammar.specs.Roles.{is_defined_id}
 use Rattle.spv_module.specs.Instruction.{Instruction, IsInstruction, opcode, roles, word_with}
 use Rattle.spv_meaning.specs.Statements.{Statement, is_silent_opcode}
 use Rattle.spv_meaning.specs.Types.{DataType}
 use Rattle.spv_meaning.specs.Constants.{Table, Meaning, IsConstant, meaning, type_at, words_in, decorated}
-use Rattle.spv_ids.specs.Ids.{is_defined_before, words_with}
+use Rattle.spv_ids.specs.Ids.{is_defined_before}
 use Rattle.spv_typing.specs.Kinds.{is_one_of}
 use Rattle.spv_typing.specs.Operations.{spec_op_fits}
 use Rattle.spv_declarations.specs.Broken.{rules_at}
@@ -59,8 +59,7 @@ by_opcode : (P : ℕ → Type 0) → AllOf P specialised_by_id → AllOf P speci
     (all : List Statement) (specialised : List ℕ) (i : Instruction) → is_specialised all specialised i ≡ true → P (opcode i)
 by_opcode P by_id by_operands all specialised i h =
     either_list (P (opcode i)) (is_one_of specialised_by_id (opcode i)) (is_one_of specialised_by_operands (opcode i))
-    (is_some (decorated all (slice_index i.words 2) decoration.SPEC_ID))
-    (list_any (is_one_of specialised) (words_with is_used_id i)) h
+    (is_some (decorated all (slice_index i.words 2) decoration.SPEC_ID)) _ h
     (one_of-holds P specialised_by_id by_id (opcode i)) (one_of-holds P specialised_by_operands by_operands (opcode i))
 
 specialised_typed : (all : List Statement) (specialised : List ℕ) (i : Instruction) → is_specialised all specialised i ≡ true →

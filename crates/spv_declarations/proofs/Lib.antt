@@ -20,3 +20,4 @@ pub mod Consequences
 pub mod Functions
 pub mod Whole
 pub mod Modules
+pub mod Examples

@@ -18,7 +18,7 @@ use Rattle.spv_declarations.proofs.Unbroken.{Keeps}
 -- ---- all that it names
 
 -- induction on the ids
-known_all : (insts : List Instruction) (k : ℕ) (ids : List ℕ) → list_any (is_unknown insts true k) ids ≡ false →
+pub known_all : (insts : List Instruction) (k : ℕ) (ids : List ℕ) → list_any (is_unknown insts true k) ids ≡ false →
     list_all (is_defined_before insts k) ids ≡ true
 known_all insts k [] h = refl
 known_all insts k (id ∷ ids) h =

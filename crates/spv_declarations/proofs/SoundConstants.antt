@@ -179,7 +179,7 @@ array_suits P insts k t ids stride is earlier known e =
     let table = table_before insts k in
     let len = length_id insts t in
     let both = and_parts (has_length d len (length ids)) (list_all (has_type insts (element insts t)) ids) e in
-    let known_length = and_parts (not (is_one_of d.specialised len)) (nat_le 1 (length ids) && length_at table len == length ids) both.0 in
+    let known_length = and_parts _ (nat_le 1 (length ids) && length_at table len == length ids) both.0 in
     let counts = and_parts (nat_le 1 (length ids)) (length_at table len == length ids) known_length.1 in
     let part = type_at table (element insts t) in
     let count = eqb-true (length_at table len) (length ids) counts.1 in

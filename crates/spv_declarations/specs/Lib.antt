@@ -4,3 +4,4 @@ pub mod Constants
 pub mod Broken
 pub mod Sound
 pub mod Laws
+pub mod Facts

@@ -4,6 +4,8 @@
 //! when it is called.
 #![tactic(auto)]
 
+mod facts;
 mod laws;
 
+pub use facts::{facts_of_constants, facts_of_operations, facts_of_types, facts_of_variables};
 pub use laws::{constants_law, declarations_law, types_law};

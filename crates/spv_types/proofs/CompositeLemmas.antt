@@ -1,9 +1,8 @@
 -- Constants of constituents.
-use Rattle.std.proofs.Common.{◌≡◌, ℕ, zero, suc, ◌+◌, ◌-◌, ◌*◌, ◌/◌, ◌<◌, ◌≤◌, ◌^◌, Bool, true, false, cond, not, ◌==◌, ◌&&◌, ◌||◌, nat_eq, nat_le, min, List, [], ◌∷◌, ◌++◌, length, take, drop, map, replicate, slice_get, slice_index, slice_set, Option, Some, None, Result, Ok, Err, ◌⊎◌, inl, inr, refl, sym, ap, subst, ◌∙◌, arith, append_assoc}
+use Rattle.std.proofs.Common.{◌≡◌, ℕ, zero, suc, ◌+◌, ◌<◌, ◌≤◌, ◌^◌, Bool, true, false, cond, ◌==◌, ◌&&◌, ◌||◌, nat_le, List, [], ◌∷◌, ◌++◌, length, take, map, slice_index, Option, Some, None, Result, Ok, Err, ◌⊎◌, inl, inr, refl, sym, ap, subst, ◌∙◌, arith, append_assoc}
 use Rattle.std.specs.List.{list_all}
 use Rattle.std.specs.Result.{IfOk}
-use Rattle.std.proofs.lemmas.List.{append-nil, length-append, take_all}
-use Rattle.std.proofs.Math.Seq.{take-suc}
+use Rattle.std.proofs.lemmas.List.{append-nil, length-append}
 use Rattle.std.proofs.lemmas.Bool.{eqb-true, and_parts, or_cases, leb-true}
 use Rattle.spv_opcodes.specs.declared.op.TheConstants as op
 use Rattle.spv_grammar.specs.Table.{row_of}
@@ -11,9 +10,8 @@ use Rattle.spv_module.specs.Instruction.{Instruction}
 use Rattle.spv_value.specs.declared.words.Operand.{Operand}
 use Rattle.spv_value.specs.Words.{words_of}
 use Rattle.spv_value.proofs.WordLists.{length-words_of}
-use Rattle.spv_meaning.specs.Computations.{Typed}
 use Rattle.spv_meaning.specs.Constants.{Table, Meaning, IsType, IsPointer, IsConstant, IsVariable, meaning, type_in, type_at, words_in, words_at, typed_in, typed_at, composed}
-use Rattle.spv_meaning.specs.Types.{DataType, Boolean, Integer, Vector, Array, Struct, cells}
+use Rattle.spv_meaning.specs.Types.{DataType, cells}
 use Rattle.spv_ids.specs.Ids.{is_defined_before}
 use Rattle.spv_typing.specs.Kinds.{is_bool, is_int, is_vector, is_array, is_struct, is_constant, has_type, type_of, component, component_count, element, length_id, members}
 use Rattle.spv_declarations.specs.Constants.{composite_fits, has_length, are_of}
@@ -26,7 +24,7 @@ use Rattle.spv_types.specs.declared.meaning.Constant.{Constant}
 use Rattle.spv_types.specs.declared.meaning.Kept.{Kept}
 use Rattle.spv_types.specs.declared.meaning.Value.TheVariants.{Small}
 use Rattle.spv_types.specs.Facts.{in_64_bits}
-use Rattle.spv_types.specs.Meanings.{IsValue, is_small, joined, words_numbered, AllBelow, StandFor}
+use Rattle.spv_types.specs.Meanings.{IsValue, is_small, joined, words_numbered, AllBelow}
 use Rattle.spv_types.specs.Declaring.{AreSound, AreScalars, HasParts, AddsWords, HasWords, IsReady, IsNumber}
 use Rattle.spv_types.proofs.Room.{in_64_bits-fits}
 
@@ -63,8 +61,8 @@ adds_number table id n m old new h same push = record {
   below = λ b. subst (λ xs. AllBelow (length table) xs) (sym push) (AllBelow-push (length table) m old b (subst (λ x. x < length table) (sym same) h.within));
 }
 
-pub adds_nothing : (table : Table) (id : ℕ) (old : List ℕ) → words_at table id ≡ [] → AddsWords table old old (words_at table id)
-adds_nothing table id old e = record { words_are = sym (append-nil (joined table old)) ∙ ap (λ ws. joined table old ++ ws) (sym e); below = λ b. b }
+pub adds_nothing : (table : Table) (id : ℕ) (old : List ℕ) → meaning table id ≡ None → AddsWords table old old (words_at table id)
+adds_nothing table id old e = record { words_are = sym (append-nil (joined table old)) ∙ ap (λ ws. joined table old ++ ws) (sym (ap words_in e)); below = λ b. b }
 
 pub parts-next : (table : Table) (ids : List ℕ) (i : ℕ) (old new : List ℕ) → i < length ids → HasParts table (composed table (take i ids)) old → AddsWords table old new (words_at table (slice_index ids i)) →
     HasParts table (composed table (take (i + 1) ids)) new

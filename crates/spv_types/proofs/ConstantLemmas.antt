@@ -1,9 +1,7 @@
 -- What is kept of a constant, by its id.
-use Rattle.std.proofs.Common.{◌≡◌, ℕ, zero, suc, ◌+◌, ◌<◌, ◌≤◌, Bool, true, false, cond, nat_eq, List, [], ◌∷◌, ◌++◌, length, slice_get, position, Option, Some, None, refl, sym, ap, subst, ◌∙◌, arith}
+use Rattle.std.proofs.Common.{◌≡◌, ℕ, suc, ◌<◌, Bool, true, false, cond, nat_eq, List, [], ◌∷◌, length, slice_get, position, Option, Some, None, refl, sym, ap, subst, ◌∙◌, arith}
 use Rattle.std.specs.Option.{IfSome, IfNone, option_map}
 use Rattle.std.specs.Map.{lookup, keys_of}
-use Rattle.std.proofs.lemmas.Bool.Decides.{nat_tests}
-use Rattle.std.proofs.lemmas.Option.{none-some}
 use Rattle.spv_value.specs.declared.words.Operand.{Operand}
 use Rattle.spv_value.specs.Words.{words_of}
 use Rattle.spv_meaning.specs.Constants.{Table, Meaning, IsType, IsPointer, IsConstant, IsVariable, meaning, words_in, words_at, typed_in, typed_at}
@@ -17,8 +15,8 @@ use Rattle.spv_types.specs.declared.meaning.Kept.TheVariants as kept
 use Rattle.spv_types.specs.declared.meaning.Value.{Value}
 use Rattle.spv_types.specs.declared.meaning.Value.TheVariants.{Small, Zeros, Parts}
 use Rattle.spv_types.specs.Facts.{in_64_bits}
-use Rattle.spv_types.specs.Meanings.{IsValue, StandsFor, StandFrom, StandFor, words_numbered, words_in_entry, constant_of_kept, cells_of_constant, is_small}
-use Rattle.spv_types.specs.Declaring.{OnlyConstants, flag_of, IsNumber, IsOperandIn, IsOperandOf}
+use Rattle.spv_types.specs.Meanings.{IsValue, StandFrom, StandFor, words_in_entry, constant_of_kept, cells_of_constant, is_small}
+use Rattle.spv_types.specs.Declaring.{OnlyConstants, flag_of, meaning_in_entry, IsNumber, IsOperandIn, IsOperandOf}
 use Rattle.spv_types.proofs.Standing.{AreAlike, StandFrom-lookup}
 
 -- a constant is kept of a constant alone, with its words and its flag
@@ -124,6 +122,7 @@ operand_kept table ids ks id x h is small = operand_alike table ids id (constant
 pub record IsPlace (table : Table) (id n : ℕ) : Type 0 where
   pub within : n < length table
   pub same : words_in_entry (slice_get table n) ≡ words_at table id
+  pub meant : meaning_in_entry (slice_get table n) ≡ meaning table id
 
 words_of_entry : (r : ℕ) (m : Meaning) → words_in_entry (Some (r, m)) ≡ words_in (Some m)
 words_of_entry r (IsType t) = refl
@@ -133,14 +132,15 @@ words_of_entry r (IsVariable class t words) = refl
 
 -- a place, if any
 abbrev pub Places : Table → (id : ℕ) → Option ℕ → Type 0
-Places table id None = words_at table id ≡ []
+Places table id None = meaning table id ≡ None
 Places table id (Some n) = IsPlace table id n
 
 place_behind : (id : ℕ) (e : ℕ × Meaning) (ts : Table) (n : Option ℕ) → nat_eq id e.0 ≡ false → Places ts id n → Places (e ∷ ts) id (option_map (λ k. suc k) n)
-place_behind id e ts None other h = ap (λ b. words_in (cond b (Some e.1) (lookup (nat_eq id) ts))) other ∙ h
+place_behind id e ts None other h = ap (λ b. cond b (Some e.1) (lookup (nat_eq id) ts)) other ∙ h
 place_behind id e ts (Some n) other h = record {
   within = omega (arith, h.within);
   same = h.same ∙ sym (ap (λ b. words_in (cond b (Some e.1) (lookup (nat_eq id) ts))) other);
+  meant = h.meant ∙ sym (ap (λ b. cond b (Some e.1) (lookup (nat_eq id) ts)) other);
 }
 
 place_first : (id : ℕ) (k : ℕ × Kept) (e : ℕ × Meaning) (ks : List (ℕ × Kept)) (ts : Table) (b : Bool) → nat_eq id k.0 ≡ b → k.0 ≡ e.0 → Places ts id (position (nat_eq id) (keys_of ks)) →
@@ -148,6 +148,7 @@ place_first : (id : ℕ) (k : ℕ × Kept) (e : ℕ × Meaning) (ks : List (ℕ 
 place_first id k e ks ts true is same h = record {
   within = omega arith;
   same = words_of_entry e.0 e.1 ∙ sym (ap (λ b. words_in (cond b (Some e.1) (lookup (nat_eq id) ts))) (ap (nat_eq id) (sym same) ∙ is));
+  meant = sym (ap (λ b. cond b (Some e.1) (lookup (nat_eq id) ts)) (ap (nat_eq id) (sym same) ∙ is));
 }
 place_first id k e ks ts false is same h = place_behind id e ts (position (nat_eq id) (keys_of ks)) (ap (nat_eq id) (sym same) ∙ is) h
 
@@ -164,14 +165,14 @@ abbrev pub IsFound : (id : ℕ) → List (ℕ × Kept) → Option ℕ → Type 0
 IsFound id ks o = IfSome o (λ n. (table : Table) (ids : List ℕ) → StandFor table ids ks → IsNumber table id n)
 
 abbrev pub IsAbsent : (id : ℕ) → List (ℕ × Kept) → Option ℕ → Type 0
-IsAbsent id ks o = IfNone o ((table : Table) (ids : List ℕ) → StandFor table ids ks → words_at table id ≡ [])
+IsAbsent id ks o = IfNone o ((table : Table) (ids : List ℕ) → StandFor table ids ks → meaning table id ≡ None)
 
 pub number_kept : (ks : List (ℕ × Kept)) (id : ℕ) (o : Option ℕ) → o ≡ position (nat_eq id) (keys_of ks) → IsFound id ks o
 number_kept ks id None e = tt
 number_kept ks id (Some n) e = λ table ids h. number table (subst (λ o. Places table id o) (sym e) (places table ids 0 id ks table h))
   where
     number : (table : Table) → Places table id (Some n) → IsNumber table id n
-    number table p = record { within = p.within; same = p.same }
+    number table p = record { within = p.within; same = p.same; meant = p.meant }
 
 pub no_number_kept : (ks : List (ℕ × Kept)) (id : ℕ) (o : Option ℕ) → o ≡ position (nat_eq id) (keys_of ks) → IsAbsent id ks o
 no_number_kept ks id None e = λ table ids h. subst (λ o. Places table id o) (sym e) (places table ids 0 id ks table h)

@@ -1,46 +1,30 @@
 -- What the instructions of constants declare, by their opcodes.
-use Rattle.std.proofs.Common.{◌≡◌, ℕ, zero, suc, ◌+◌, ◌*◌, ◌<◌, ◌≤◌, Bool, true, false, cond, not, ◌==◌, ◌&&◌, ◌||◌, nat_eq, List, [], ◌∷◌, ◌++◌, length, take, drop, map, replicate, slice_get, slice_index, Option, Some, None, ◌⊎◌, inl, inr, refl, sym, ap, subst, ◌∙◌, arith}
+use Rattle.std.proofs.Common.{◌≡◌, ℕ, Bool, true, false, cond, not, ◌==◌, ◌&&◌, ◌||◌, List, [], ◌∷◌, length, drop, map, slice_index, Option, Some, refl, sym, ap, ◌∙◌}
 use Rattle.std.specs.List.{list_any, list_all, filter, zip}
-use Rattle.std.specs.Map.{lookup}
-use Rattle.std.proofs.lemmas.List.{length-replicate}
-use Rattle.std.proofs.lemmas.Bool.{eqb-true, and_parts, and_from, or_parts, or_cases, not-false}
+use Rattle.std.proofs.lemmas.Bool.{and_from, or_parts, not-false}
 use Rattle.spv_opcodes.specs.declared.op.TheConstants as op
-use Rattle.spv_opcodes.specs.declared.decoration.TheConstants as decoration
 use Rattle.spv_grammar.specs.declared.kind.Role.{Role}
-use Rattle.spv_grammar.specs.declared.kind.Kind.TheVariants.{ResultType, ResultId, Ids}
 use Rattle.spv_grammar.specs.declared.section.TheConstants as section
 use Rattle.spv_grammar.specs.Operands.{roles_of}
 use Rattle.spv_grammar.specs.Roles.{is_used_id}
-use Rattle.spv_grammar.specs.Table.{row_of, in_section}
+use Rattle.spv_grammar.specs.Table.{row_of}
 use Rattle.spv_module.specs.Code.{row_section}
-use Rattle.spv_module.specs.Instruction.{Instruction, IsInstruction, opcode, roles, parts}
-use Rattle.spv_value.specs.declared.words.Operand.{Operand}
-use Rattle.spv_value.specs.Words.{words_of}
-use Rattle.spv_meaning.specs.Constants.{Table, Meaning, IsType, IsConstant, meaning, type_in, type_at, composed, zeros, given, decorated, defined}
-use Rattle.spv_meaning.specs.Statements.{Statement, by_row, rows, is_silent_opcode}
-use Rattle.spv_meaning.specs.Types.{DataType, Boolean, Integer, Vector, cells}
-use Rattle.spv_ids.specs.Ids.{is_defined, is_defined_before, is_unknown, is_declaration, names_unknown, used_ids, words_with, kind}
-use Rattle.spv_typing.specs.declared.shapes.Shape.{Shape}
-use Rattle.spv_typing.specs.Kinds.{is_one_of, is_bool, is_int, is_vector, is_array, is_struct, is_data, is_closed, is_spec, ends_open, data_types, component, component_count}
-use Rattle.spv_typing.specs.Operations.{shape, of_components}
-use Rattle.spv_declarations.specs.Constants.{constant_fits, composite_fits}
+use Rattle.spv_module.specs.Instruction.{Instruction, opcode, roles, parts}
+use Rattle.spv_meaning.specs.Constants.{Meaning, IsConstant, type_at}
+use Rattle.spv_ids.specs.Ids.{is_defined, is_defined_before, is_unknown, is_declaration, used_ids, words_with}
+use Rattle.spv_typing.specs.Kinds.{is_one_of, is_bool, is_int, is_closed, is_spec}
+use Rattle.spv_declarations.specs.Constants.{composite_fits}
 use Rattle.spv_declarations.specs.Declarations.{Declared, declared_before, says, entry}
-use Rattle.spv_declarations.specs.Sound.{IsBefore, table_before, IsSoundType, IsSoundShape}
+use Rattle.spv_declarations.specs.Sound.{IsBefore, table_before}
 use Rattle.spv_declarations.proofs.Declares.{AllOf, one_of-holds}
-use Rattle.spv_declarations.proofs.Defining.{entry-by}
-use Rattle.spv_declarations.proofs.Naming.{type-known, constituents-known}
-use Rattle.spv_declarations.proofs.Parts.{first_typed, row_test, typed-words, TypedParts, typed-parts}
-use Rattle.spv_declarations.proofs.Sites.{index-on, drop-on}
-use Rattle.spv_declarations.proofs.SoundShapes.{sound_shape}
-use Rattle.spv_types.specs.declared.facts.TypeFacts.{TypeFacts}
+use Rattle.spv_declarations.proofs.Naming.{type-known}
+use Rattle.spv_declarations.proofs.Parts.{first_typed, row_test, typed-words}
+use Rattle.spv_declarations.proofs.Sites.{index-on}
 use Rattle.spv_types.specs.declared.meaning.Constant.{Constant}
 use Rattle.spv_types.specs.declared.meaning.Kept.{Kept}
-use Rattle.spv_types.specs.declared.meaning.Value.TheVariants.{Zeros}
-use Rattle.spv_types.specs.Facts.{in_64_bits, facts}
-use Rattle.spv_types.specs.Meanings.{IsValue, StandFor, is_small}
+use Rattle.spv_types.specs.Meanings.{StandFor}
 use Rattle.spv_types.specs.Steps.{IsNext, constant_opcodes}
-use Rattle.spv_types.specs.Declaring.{OnlyConstants, IsReady, HasWords, DeclaresWords, flag_at}
-use Rattle.spv_types.proofs.CompositeLemmas.{IsVectorOf, vector_of_scalars, next_sound}
+use Rattle.spv_types.specs.Declaring.{OnlyConstants, HasWords, DeclaresWords, flag_at}
 use Rattle.spv_types.proofs.ConstantLemmas.{flag_kept}
 
 -- ---- operands that are Specialised
@@ -103,7 +87,7 @@ rule_by insts d o words =
     cond (is_one_of (op.CONSTANT_TRUE ∷ op.CONSTANT_FALSE ∷ op.SPEC_CONSTANT_TRUE ∷ op.SPEC_CONSTANT_FALSE ∷ []) o) (is_bool insts t)
     (cond (is_one_of (op.CONSTANT ∷ op.SPEC_CONSTANT ∷ []) o) (is_int insts t && length (drop 3 words) == 1)
     (cond (o == op.CONSTANT_NULL) (is_closed insts t)
-    (cond (o == op.UNDEF) (d.begun || is_closed insts t)
+    (cond (o == op.UNDEF) (is_closed insts t)
     (cond (o == op.SPEC_CONSTANT_COMPOSITE) (composite_fits insts d t (drop 3 words))
     (cond (o == op.CONSTANT_COMPOSITE) (composite_fits insts d t (drop 3 words) && list_all (λ id. not (is_spec insts id)) (drop 3 words))
     true)))))
@@ -120,7 +104,7 @@ declares insts k i c ws e has = record {
   type = type_at (table_before insts k) (slice_index i.words 1);
   words = ws;
   stands =
-    e ∙ ap (λ (r : ℕ). stands_at r (slice_index (drop 1 i.words) 0)) (index-on i.words 1) ∙ ap (λ (t : ℕ). stands_at (slice_index i.words 2) t) (index-on i.words 0);
+      e ∙ ap (λ (r : ℕ). stands_at r (slice_index (drop 1 i.words) 0)) (index-on i.words 1) ∙ ap (λ (t : ℕ). stands_at (slice_index i.words 2) t) (index-on i.words 0);
   has = has;
 }
   where

@@ -13,5 +13,14 @@ pub mod ConstantLemmas
 pub mod CompositeLemmas
 pub mod DeclarationLemmas
 pub mod OpcodeLemmas
+pub mod SuitLemmas
+pub mod OperandLemmas
+pub mod FormLemmas
+pub mod Walking
+pub mod Leading
+pub mod Reaching
+pub mod ExtractLemmas
 pub mod Tests
 pub mod EarlyRules
+pub mod Entries
+pub mod OneMore

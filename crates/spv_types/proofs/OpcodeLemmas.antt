@@ -1,10 +1,10 @@
 -- Each opcode of constants: what its instructions declare is what is kept.
-use Rattle.std.proofs.Common.{◌≡◌, ◌≢◌, ℕ, zero, suc, ◌+◌, ◌*◌, ◌<◌, ◌≤◌, Bool, true, false, cond, not, ◌==◌, ◌&&◌, ◌||◌, nat_eq, List, [], ◌∷◌, ◌++◌, length, take, drop, map, replicate, slice_get, slice_index, Option, Some, None, Result, Ok, Err, ◌⊎◌, inl, inr, refl, sym, ap, subst, ◌∙◌, arith}
-use Rattle.std.specs.List.{list_any, list_all}
+use Rattle.std.proofs.Common.{◌≡◌, ◌≢◌, ℕ, ◌≤◌, Bool, true, false, cond, not, ◌==◌, ◌&&◌, ◌||◌, nat_eq, List, [], ◌∷◌, length, drop, map, replicate, slice_index, Option, Some, None, Result, Ok, Err, ◌⊎◌, inl, inr, refl, sym, ap, subst, ◌∙◌, arith}
+use Rattle.std.specs.List.{list_all}
 use Rattle.std.specs.Option.{is_some}
 use Rattle.std.specs.Result.{IfOk}
 use Rattle.std.proofs.lemmas.List.{length-replicate}
-use Rattle.std.proofs.lemmas.Bool.{eqb-true, and_parts, or_cases, false≢true}
+use Rattle.std.proofs.lemmas.Bool.{eqb-true, and_parts, or_cases}
 use Rattle.spv_opcodes.specs.declared.op.TheConstants as op
 use Rattle.spv_opcodes.specs.declared.decoration.TheConstants as decoration
 use Rattle.spv_grammar.specs.declared.kind.Kind.TheVariants.{ResultType, ResultId, Ids}
@@ -13,17 +13,17 @@ use Rattle.spv_module.specs.Instruction.{Instruction, opcode, roles}
 use Rattle.spv_value.specs.declared.words.Operand.{Operand}
 use Rattle.spv_value.specs.Words.{words_of}
 use Rattle.spv_meaning.specs.Computations.{computed}
-use Rattle.spv_meaning.specs.Constants.{Table, Meaning, IsType, IsConstant, type_in, type_at, typed_at, composed, zeros, given, decorated}
-use Rattle.spv_meaning.specs.Types.{DataType, Boolean, Integer, Vector, cells}
-use Rattle.spv_ids.specs.Ids.{is_defined_before, kind}
+use Rattle.spv_meaning.specs.Constants.{Table, Meaning, IsConstant, type_in, type_at, typed_at, composed, zeros, given, decorated}
+use Rattle.spv_meaning.specs.Types.{DataType, cells}
+use Rattle.spv_ids.specs.Ids.{is_defined_before}
 use Rattle.spv_typing.specs.declared.operations.Form.{Form}
 use Rattle.spv_typing.specs.declared.operations.Form.TheVariants.{Ints, Bools, Compares, Selects, Shuffles, Extracts, Inserts}
 use Rattle.spv_typing.specs.declared.shapes.Shape.{Shape}
-use Rattle.spv_typing.specs.Kinds.{is_one_of, is_bool, is_int, is_vector, is_array, is_struct, is_data, is_closed, is_spec, ends_open, data_types, component, component_count}
+use Rattle.spv_typing.specs.Kinds.{is_one_of, is_bool, is_int, is_vector, is_array, is_struct, is_data, is_closed, ends_open, component, component_count}
 use Rattle.spv_typing.specs.Operations.{shape, of_components, has_shape, count_of, operands_fit}
 use Rattle.spv_declarations.specs.Constants.{composite_fits}
-use Rattle.spv_declarations.specs.Declarations.{Declared, declared_before, says, entry, is_specialised}
-use Rattle.spv_declarations.specs.Sound.{IsBefore, table_before, IsSoundType, IsSoundShape}
+use Rattle.spv_declarations.specs.Declarations.{declared_before, says, entry, is_specialised}
+use Rattle.spv_declarations.specs.Sound.{IsBefore, table_before, IsSoundType}
 use Rattle.spv_declarations.proofs.Defining.{entry-by}
 use Rattle.spv_declarations.proofs.Naming.{constituents-known}
 use Rattle.spv_declarations.proofs.Operations.{fitting-form, operation-entry, computation_for, operands_for}
@@ -36,9 +36,9 @@ use Rattle.spv_types.specs.declared.meaning.Kept.{Kept}
 use Rattle.spv_types.specs.declared.meaning.Value.TheVariants.{Zeros}
 use Rattle.spv_types.specs.Facts.{in_64_bits, facts}
 use Rattle.spv_types.specs.Meanings.{IsValue, is_small}
-use Rattle.spv_types.specs.Steps.{IsNext, KeepsConstant, constant_opcodes}
+use Rattle.spv_types.specs.Steps.{KeepsConstant, constant_opcodes}
 use Rattle.spv_types.specs.Declaring.{IsReady, HasWords, DeclaresWords}
-use Rattle.spv_types.proofs.CompositeLemmas.{IsVectorOf, vector_of_scalars, vector_small, next_sound}
+use Rattle.spv_types.proofs.CompositeLemmas.{vector_of_scalars, vector_small, next_sound}
 use Rattle.spv_types.proofs.DeclarationLemmas.{all_known, type_known, rule_at, declares}
 
 -- what is known of the next declaration
@@ -160,16 +160,12 @@ null_by insts k i ks c ready listed has closed e =
     declares insts k i c (zeros (type_at table (slice_index (drop 1 i.words) 0))) e
     (subst (λ (t : ℕ). HasWords table (type_at table (slice_index i.words 1)) (zeros (type_at table t)) c) (sym (index-on i.words 0)) (has (type_known insts k i ready.next listed) closed))
 
-begun_none : (b c : Bool) → b ≡ false → (b || c) ≡ true → c ≡ true
-begun_none true c e h = cc
-begun_none false c e h = h
-
 pub null_declares : (insts : List Instruction) (k : ℕ) (i : Instruction) (ks : List (ℕ × Kept)) (c : Constant) → IsReady insts k i ks → IsListed i → (opcode i ≡ op.CONSTANT_NULL) ⊎ (opcode i ≡ op.UNDEF) →
     HasZeros insts k (slice_index i.words 1) c → DeclaresWords insts k i c
 null_declares insts k i ks c ready listed (inl is_o) has =
     null_by insts k i ks c ready listed has (rule_at insts k i op.CONSTANT_NULL ready.next is_o) (entry-by (says insts) (table_before insts k) i op.CONSTANT_NULL is_o refl)
 null_declares insts k i ks c ready listed (inr is_o) has =
-    null_by insts k i ks c ready listed has (begun_none (declared_before insts k).begun (is_closed insts (slice_index i.words 1)) ready.next.outside (rule_at insts k i op.UNDEF ready.next is_o))
+    null_by insts k i ks c ready listed has (rule_at insts k i op.UNDEF ready.next is_o)
     (entry-by (says insts) (table_before insts k) i op.UNDEF is_o refl)
 
 one_or_more : (o n : ℕ) (b : Bool) → o ≢ n → (nat_eq o n || b) ≡ true → b ≡ true
@@ -206,9 +202,11 @@ shape_small insts table t s sound e = by_vector (is_vector insts t) refl e
     by_int : (n : Bool) → is_int insts t ≡ n → cond n (Some (record { is_boolean = false; count = 1 })) None ≡ Some s → is_small (type_at table t) ≡ true
     by_int true n e = ap (λ m. is_small (type_in m)) (sound.integer n)
     by_int false n e = cc
+
     by_bool : (b : Bool) → is_bool insts t ≡ b → cond b (Some (record { is_boolean = true; count = 1 })) (cond (is_int insts t) (Some (record { is_boolean = false; count = 1 })) None) ≡ Some s → is_small (type_at table t) ≡ true
     by_bool true b e = ap (λ m. is_small (type_in m)) (sound.boolean b)
     by_bool false b e = by_int (is_int insts t) refl e
+
     by_vector : (v : Bool) → is_vector insts t ≡ v → cond v (of_components insts (component insts t) (component_count insts t)) (of_components insts t 1) ≡ Some s → is_small (type_at table t) ≡ true
     by_vector true v e = vector_small insts table t sound v
     by_vector false v e = by_bool (is_bool insts t) refl e
@@ -243,6 +241,7 @@ shapeless_large insts k i ks t ready before e closed =
         let no : true ≡ false = sym of.kind ∙ ap (λ (b : Bool). b || is_int insts (component insts t)) scalars.0 ∙ scalars.1 in
         cc
     by_vector false v e = (v, e)
+
     left_over : (b n v a s : Bool) → b ≡ false → n ≡ false → v ≡ false → (b || (n || (v || (a || (s || false))))) ≡ true → (a ≡ true) ⊎ (s ≡ true)
     left_over true n v a s eb en ev h = cc
     left_over false true v a s eb en ev h = cc
@@ -250,6 +249,7 @@ shapeless_large insts k i ks t ready before e closed =
     left_over false false false true s eb en ev h = inl refl
     left_over false false false false true eb en ev h = inr refl
     left_over false false false false false eb en ev h = cc
+
     array_or_struct : IsSoundType insts (table_before insts k) t → (is_array insts t ≡ true) ⊎ (is_struct insts t ≡ true) → is_small (type_at (table_before insts k) t) ≡ false
     array_or_struct sound (inl a) = ap (λ m. is_small (type_in m)) (sound.array a).1
     array_or_struct sound (inr s) = ap (λ m. is_small (type_in m)) (sound.struct s)

@@ -76,7 +76,7 @@ joined-more table more n [] within h = refl
 joined-more table more n (x ∷ xs) within h =
     rw (words_numbered-more table more x (omega (arith, within, h.0)), joined-more table more n xs within h.1) refl
 
-IsValue-more : (table more : Table) (n : ℕ) (v : Value) (t : DataType) (words : List ℕ) → n ≤ length table → IsValue table n v t words → IsValue (table ++ more) n v t words
+pub IsValue-more : (table more : Table) (n : ℕ) (v : Value) (t : DataType) (words : List ℕ) → n ≤ length table → IsValue table n v t words → IsValue (table ++ more) n v t words
 IsValue-more table more n (Small operand) t words within h = h
 IsValue-more table more n Zeros t words within h = h
 IsValue-more table more n (Parts numbers) t words within h = (h.0 ∙ sym (joined-more table more n numbers.items within h.1.0), h.1)

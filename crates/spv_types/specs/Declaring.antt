@@ -1,5 +1,5 @@
 -- What is known in front of a constant's declaration, and what is kept of the constant.
-use Rattle.std.specs.Prelude.{◌≡◌, ℕ, ◌<◌, Bool, true, false, List, [], ◌∷◌, ◌++◌, length, nat_eq, slice_index, Option, Some, None}
+use Rattle.std.specs.Prelude.{◌≡◌, ℕ, ◌<◌, Bool, true, false, List, [], ◌∷◌, ◌++◌, length, nat_eq, slice_get, slice_index, Option, Some, None}
 use Rattle.std.specs.Map.{lookup}
 use Rattle.spv_module.specs.Instruction.{Instruction}
 use Rattle.spv_value.specs.Eval.{AreBooleanWords}
@@ -18,6 +18,7 @@ use Rattle.spv_value.specs.declared.words.Operand.{Operand}
 use Rattle.spv_types.specs.Facts.{in_64_bits}
 use Rattle.spv_types.specs.Meanings.{IsValue, StandFor, AllBelow, words_numbered, joined, is_small, constant_of_kept}
 use Rattle.spv_types.specs.Steps.{IsNext}
+use Rattle.spv_types.specs.Extracting.{AreComposed}
 
 -- each Specialised id is a constant
 pub record OnlyConstants (d : Declared) : Type 0 where
@@ -27,11 +28,12 @@ pub record OnlyConstants (d : Declared) : Type 0 where
 pub record AreSound (insts : List Instruction) (k : ℕ) : Type 0 where
   pub constants : (id : ℕ) → IsBefore insts k id → is_constant insts id ≡ true → IsSoundConstant insts (table_before insts k) id
   pub booleans : (id : ℕ) (s : Shape) → IsBefore insts k id → is_constant insts id ≡ true → shape insts (type_of insts id) ≡ Some s → s.is_boolean ≡ true →
-    AreBooleanWords (words_at (table_before insts k) id)
+      AreBooleanWords (words_at (table_before insts k) id)
 
 -- the k-th declares a constant, and so much stands for what those before it declared
 pub record IsReady (insts : List Instruction) (k : ℕ) (i : Instruction) (entries : List (ℕ × Kept)) : Type 0 where
   pub next : IsNext insts k i
+  pub composed : AreComposed (declared_before insts k).table entries
   pub only : OnlyConstants (declared_before insts k)
   pub sound : AreSound insts k
   pub stand : StandFor (declared_before insts k).table (declared_before insts k).specialised entries
@@ -41,10 +43,15 @@ pub record HasWords (table : Table) (t : DataType) (words : List ℕ) (c : Const
   pub value : IsValue table (length table) c.value t words
   pub cells : c.cells ≡ in_64_bits (length words)
 
+abbrev pub meaning_in_entry : Option (ℕ × Meaning) → Option Meaning
+meaning_in_entry None = None
+meaning_in_entry (Some e) = Some e.1
+
 -- the number of an id's entry
 pub record IsNumber (table : Table) (id n : ℕ) : Type 0 where
   pub within : n < length table
   pub same : words_numbered table n ≡ words_at table id
+  pub meant : meaning_in_entry (slice_get table n) ≡ meaning table id
 
 -- the words of a scalar or a vector, where it is one
 abbrev pub IsOperandIn : Value → Operand → Type 0
@@ -85,3 +92,8 @@ pub record DeclaresWords (insts : List Instruction) (k : ℕ) (i : Instruction) 
   pub words : List ℕ
   pub stands : entry (says insts) (table_before insts k) i ≡ Some (slice_index i.words 2, IsConstant type words)
   pub has : HasWords (table_before insts k) type words c
+
+-- scalars and vectors
+abbrev pub AreSmall : Table → (ids : List ℕ) → Type 0
+AreSmall table [] = Unit {0}
+AreSmall table (id ∷ ids) = (is_small (typed_at table id).type ≡ true) × AreSmall table ids

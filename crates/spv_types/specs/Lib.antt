@@ -4,4 +4,9 @@ pub mod Members
 pub mod Steps
 pub mod Search
 pub mod Declaring
+pub mod Suits
+pub mod Computing
+pub mod Extracting
 pub mod Progress
+pub mod Entries
+pub mod Whole

@@ -15,7 +15,6 @@ use Rattle.spv_declarations.specs.Broken.{group_3, group_3_from, layout_fits}
 use Rattle.spv_declarations.specs.Declarations.{Declared, declared_before}
 use Rattle.spv_declarations.specs.Sound.{Unbroken}
 use Rattle.spv_types.specs.declared.meaning.Kept.{Kept}
-use Rattle.spv_types.specs.Declaring.{OnlyConstants}
 use Rattle.spv_types.specs.Meanings.{StandFor}
 use Rattle.spv_types.specs.Steps.{ArrayIsKnown}
 
@@ -54,8 +53,3 @@ pub record IsRead (end : ℕ) (insts : List Instruction) (k : ℕ) : Type 0 wher
   pub rises : RisesTo end from (drop k insts)
   pub rest : first (group_3 insts) ≡ first (group_3_from insts (declared_before insts k) k (drop k insts))
   pub unbroken : Unbroken insts k
-
--- what is kept stands for what was declared
-pub record AreKept (d : Declared) (entries : List (ℕ × Kept)) : Type 0 where
-  pub stand : StandFor d.table d.specialised entries
-  pub only : OnlyConstants d

@@ -40,9 +40,14 @@ pub record IsNext (insts : List Instruction) (k : ℕ) (i : Instruction) : Type 
 abbrev pub IsLength : List Instruction → Table → (id : ℕ) → Type 0
 IsLength insts table id = (word : ℕ) × (meaning table id ≡ Some (IsConstant (Integer 32 (word_of insts (type_of insts id) 3 == 1)) (word ∷ [])))
 
--- where the type of what the instruction defines is an array, the array's length is such a constant
+-- constants of constituents
+abbrev pub composites : List ℕ
+composites = op.CONSTANT_COMPOSITE ∷ op.SPEC_CONSTANT_COMPOSITE ∷ []
+
+-- where such a constant's type is an array, the array's length is a constant of one word
 abbrev pub ArrayIsKnown : List Instruction → Table → Instruction → Type 0
-ArrayIsKnown insts table i = is_array insts (slice_index i.words 1) ≡ true → IsLength insts table (length_id insts (slice_index i.words 1))
+ArrayIsKnown insts table i =
+    is_one_of composites (opcode i) ≡ true → is_array insts (slice_index i.words 1) ≡ true → IsLength insts table (length_id insts (slice_index i.words 1))
 
 -- what is kept of a type stands for what the type is; of an array's only where its length is known to be one word
 pub record KeepsType (insts : List Instruction) (table : Table) (i : Instruction) (kept : Kept) : Type 0 where

@@ -1,10 +1,9 @@
 // What is kept of constants that are declared.
-ghost use Rattle.std.specs.Prelude.{◌≡◌, ℕ, ◌≤◌, ◌&&◌, true, List, IfOk, replicate};
+ghost use Rattle.std.specs.Prelude.{◌≡◌, ℕ, ◌&&◌, true, false, List, IfOk};
 ghost use Rattle.std.specs.List.{list_any, zip};
 ghost use Rattle.spv_grammar.specs.Roles.{is_used_id};
 ghost use Rattle.spv_module.specs.Instruction.{Instruction, opcode as opcode_in};
 ghost use Rattle.spv_module.specs.View.{seen};
-ghost use Rattle.spv_value.specs.Words.{words_of};
 ghost use Rattle.spv_meaning.specs.Constants.{type_at, zeros as zeros_of};
 ghost use Rattle.spv_typing.specs.Kinds.{is_one_of, is_closed};
 ghost use Rattle.spv_declarations.specs.Declarations.{Declared, declared_before, says, is_specialised as specialised_in};
@@ -12,22 +11,23 @@ ghost use Rattle.spv_ids.specs.Ids.{words_with};
 ghost use Rattle.spv_declarations.specs.Sound.{IsBefore, table_before};
 ghost use Rattle.spv_types.specs.Meanings.{StandFor};
 ghost use Rattle.spv_types.specs.Steps.{IsNext, KeepsConstant, constant_opcodes};
+ghost use Rattle.spv_types.specs.Extracting.{AreComposed};
 ghost use Rattle.spv_types.specs.Declaring.{OnlyConstants, AreSound, IsReady, HasWords, DeclaresWords, flag_at};
 
 use crate::composites::{composite, small};
 use crate::computed_constant::computed_constant;
 use crate::operands::is_specialised as is_specialised_id;
+use crate::extraction::small_zeros;
 use crate::meaning::{Constant, Value};
 use crate::meanings::{Meanings, type_facts};
 use spv_base::NoMemory;
 use spv_decorations::Decorations;
-use spv_folding::{of_word, zeros};
+use spv_folding::of_word;
 use spv_grammar::kind::Role;
 use spv_ids::{word, words_from};
 use spv_module::View;
 use spv_opcodes::{decoration, op};
 use spv_typing::Kinds;
-use spv_value::Operand;
 use std::alloc::Global;
 
 /// Whether one of the words is an operand that is a Specialised constant.
@@ -56,13 +56,6 @@ fn is_specialised(decorations: &Decorations, meanings: &Meanings, inst: &View) -
         op::SPEC_CONSTANT_COMPOSITE | op::SPEC_CONSTANT_OP => names_specialised(meanings, inst),
         _ => false,
     }
-}
-
-/// So many zeros, of four at most.
-fn small_zeros(count: u32) -> Operand
-    ensures { count ≤ 4 → words_of result ≡ replicate count 0 }
-{
-    zeros(count.min(4) as u8)
 }
 
 /// What is kept of a constant of this type that is zeros.
@@ -97,7 +90,14 @@ fn with_words(
         op::CONSTANT_FALSE | op::SPEC_CONSTANT_FALSE => Ok(small(is_specialised, of_word(0))),
         op::CONSTANT | op::SPEC_CONSTANT => Ok(small(is_specialised, of_word(word(inst, 3)))),
         op::CONSTANT_COMPOSITE | op::SPEC_CONSTANT_COMPOSITE => {
-            composite(alloc, kinds, meanings, t, words_from(inst, 3), is_specialised)
+            composite(
+                alloc,
+                kinds,
+                meanings,
+                t,
+                words_from(inst, 3),
+                is_specialised,
+            )
         }
         op::SPEC_CONSTANT_OP => Ok(small(is_specialised, computed_constant(kinds, meanings, inst))),
         _ => Ok(null(kinds, meanings, t, is_specialised)),
@@ -113,7 +113,7 @@ pub fn declared_constant(
     inst: &View,
 ) -> Result<Constant, NoMemory>
     requires same { decorations.now ≡ kinds.now }
-    ensures { IfOk result (λ c. (k : ℕ) → IsNext kinds.now k (seen inst.now) → is_one_of constant_opcodes (opcode_in (seen inst.now)) ≡ true → OnlyConstants (declared_before kinds.now k) → AreSound kinds.now k → StandFor (declared_before kinds.now k).table (declared_before kinds.now k).specialised meanings.now.entries → KeepsConstant kinds.now (declared_before kinds.now k) (seen inst.now) c) }
+    ensures { IfOk result (λ c. (k : ℕ) → IsNext kinds.now k (seen inst.now) → is_one_of constant_opcodes (opcode_in (seen inst.now)) ≡ true → AreComposed (declared_before kinds.now k).table meanings.now.entries → OnlyConstants (declared_before kinds.now k) → AreSound kinds.now k → StandFor (declared_before kinds.now k).table (declared_before kinds.now k).specialised meanings.now.entries → KeepsConstant kinds.now (declared_before kinds.now k) (seen inst.now) c) }
 {
     let is_specialised = is_specialised(decorations, meanings, inst);
     with_words(alloc, kinds, meanings, inst, is_specialised)

@@ -6,12 +6,17 @@ mod computed_constant;
 mod constants;
 mod declared_constant;
 mod declared_type;
+mod evaluation;
+mod extraction;
 pub mod facts;
+mod keeping;
 pub mod meaning;
 mod meanings;
+mod module_tables;
 mod operands;
 mod rules;
 mod words;
 
 pub use facts::TypeFacts;
 pub use meaning::{Constant, Kept, Value};
+pub use module_tables::{Tables, tables};

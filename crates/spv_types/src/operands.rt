@@ -3,7 +3,7 @@ ghost use Rattle.std.specs.Prelude.{◌≡◌, ℕ, ◌<◌, true, List, [], Non
 ghost use Rattle.std.specs.Map.{lookup};
 ghost use Rattle.std.specs.Option.{option_copied};
 ghost use Rattle.spv_value.specs.Words.{words_of};
-ghost use Rattle.spv_meaning.specs.Constants.{Table, words_at, typed_at};
+ghost use Rattle.spv_meaning.specs.Constants.{Table, meaning, words_at, typed_at};
 ghost use Rattle.spv_types.specs.Facts.{in_64_bits};
 ghost use Rattle.spv_types.specs.Meanings.{StandFor, constant_of_kept, cells_of_constant, is_small};
 ghost use Rattle.spv_types.specs.Declaring.{flag_of, flag_at, IsNumber, IsOperandOf};
@@ -13,7 +13,7 @@ use crate::meanings::Meanings;
 use spv_folding::zeros;
 use spv_value::Operand;
 
-fn constant_in(kept: Option<&Kept>) -> Option<&Constant>
+pub fn constant_in(kept: Option<&Kept>) -> Option<&Constant>
     ensures { option_copied result ≡ constant_of_kept (option_copied kept.entry) }
 {
     match kept {
@@ -62,14 +62,17 @@ pub fn cells_of(meanings: &Meanings, id: u32) -> Option<u64>
     cells_in(constant_of(meanings, id))
 }
 
-fn operand_in(constant: Option<&Constant>) -> Operand
+/// The words of a scalar or a vector; none of anything else.
+pub fn operand_in(constant: Option<&Constant>) -> Operand
     ensures { IsOperandOf (option_copied constant.entry) result }
 {
     match constant {
-        Some(Constant {
-            value: Value::Small(operand),
-            ..
-        }) => *operand,
+        Some(
+            Constant {
+                value: Value::Small(operand),
+                ..
+            },
+        ) => *operand,
         _ => zeros(0),
     }
 }
@@ -85,7 +88,7 @@ pub fn operand_of(meanings: &Meanings, id: u32) -> Operand
 /// The number of the id among the meanings.
 pub fn number_of(meanings: &Meanings, id: u32) -> Option<usize>
     ensures found { IfSome result (λ n. (table : Table) (ids : List ℕ) → StandFor table ids meanings.now.entries → IsNumber table id n) }
-    ensures absent { IfNone result ((table : Table) (ids : List ℕ) → StandFor table ids meanings.now.entries → words_at table id ≡ []) }
+    ensures absent { IfNone result ((table : Table) (ids : List ℕ) → StandFor table ids meanings.now.entries → meaning table id ≡ None) }
 {
     meanings.get_index_of(&id)
 }

@@ -75,7 +75,7 @@ fn form_of_opcode(opcode: u16) -> Option<Form>
 }
 
 /// What the operation that a word names takes and gives. None where OpSpecConstantOp may not name it.
-fn form_of(word: u32) -> Option<Form>
+pub fn form_of(word: u32) -> Option<Form>
     ensures { result ≡ operations.form_of word }
 {
     match u16::try_from(word) {

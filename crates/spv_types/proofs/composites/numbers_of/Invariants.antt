@@ -1,4 +1,4 @@
-use Rattle.std.proofs.Common.{◌≡◌, ℕ, List, take}
+use Rattle.std.proofs.Common.{ℕ, List, take}
 use Rattle.spv_meaning.specs.Constants.{Table, composed}
 use Rattle.spv_types.specs.Meanings.{StandFor}
 use Rattle.spv_types.specs.Declaring.{HasParts}

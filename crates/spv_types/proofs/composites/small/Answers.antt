@@ -1,4 +1,4 @@
-use Rattle.std.proofs.Common.{refl, ap, Some, ◌∙◌, ◌<◌, ◌^◌, subst, sym, arith}
+use Rattle.std.proofs.Common.{refl, ap, Some, arith}
 use Rattle.spv_types.proofs.CompositeLemmas.{small_words}
 use Rattle.spv_types.proofs.composites.small.Goals as goal
 

@@ -1,6 +1,6 @@
-use Rattle.std.proofs.Common.{◌≡◌, ◌≤◌, ℕ, List, length, take}
+use Rattle.std.proofs.Common.{◌≡◌, ◌≤◌, ℕ, List, length}
 use Rattle.spv_value.specs.Words.{words_of}
-use Rattle.spv_meaning.specs.Constants.{Table, composed}
+use Rattle.spv_meaning.specs.Constants.{Table}
 use Rattle.spv_folding.proofs.Shuffling.{filled}
 use Rattle.spv_types.specs.Meanings.{StandFor}
 use Rattle.spv_types.specs.Declaring.{AreScalars}

@@ -8,8 +8,8 @@ use Rattle.spv_types.proofs.declared_constant.declared_constant.Goals as goal
 pub returns : goal.returns
 returns c =
     if_ok_both _ _ _ c.with_words.result
-    (λ constant flag words k next listed only sound stand.
-      keeps c.args.kinds.now k (seen c.args.inst.now) constant (words k (record { next = next; only = only; sound = sound; stand = stand }) listed)
-      (flag ∙ c.is_specialised-is_specialised.ensures (declared_before c.args.kinds.now k) stand only
-      ∙ ap (λ (all : List Instruction). is_specialised (says all) (declared_before c.args.kinds.now k).specialised (seen c.args.inst.now)) c.requires.same))
+    (λ constant flag words k next listed composed only sound stand.
+    keeps c.args.kinds.now k (seen c.args.inst.now) constant (words k (record { next = next; composed = composed; only = only; sound = sound; stand = stand }) listed)
+    (flag ∙ c.is_specialised-is_specialised.ensures (declared_before c.args.kinds.now k) stand only
+    ∙ ap (λ (all : List Instruction). is_specialised (says all) (declared_before c.args.kinds.now k).specialised (seen c.args.inst.now)) c.requires.same))
     c.with_words.ensures.flag c.with_words.ensures.words

@@ -1,4 +1,4 @@
-use Rattle.std.proofs.Common.{◌∙◌, sym, refl}
+use Rattle.std.proofs.Common.{sym, refl}
 use Rattle.spv_types.proofs.OpcodeLemmas.{zeros_small, zeros_large}
 use Rattle.spv_types.proofs.declared_constant.null.Goals as goal
 

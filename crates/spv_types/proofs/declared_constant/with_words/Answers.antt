@@ -1,4 +1,4 @@
-use Rattle.std.proofs.Common.{rules, ◌∙◌, ◌≡◌, ap, sym, ◌⊎◌, inl, inr, ◌∷◌, [], arith, List, ℕ}
+use Rattle.std.proofs.Common.{◌∙◌, ◌≡◌, ap, sym, ◌⊎◌, inl, inr, ◌∷◌, [], arith, ℕ}
 use Rattle.spv_module.specs.View.{seen}
 use Rattle.spv_types.proofs.OpcodeLemmas.{true_declares, false_declares, number_declares, composite_at, null_at, operation_declares, others_zero}
 use Rattle.spv_types.proofs.CompositeLemmas.{if_ok}
