@@ -14,7 +14,7 @@ use Rattle.spv_typing.specs.declared.operations.Form.TheVariants.{Extracts}
 use Rattle.spv_typing.specs.Kinds.{is_constant, type_of}
 use Rattle.spv_typing.specs.Operations.{shape, count_of, literals_lead, part_along, leads_to}
 use Rattle.spv_declarations.specs.Sound.{IsBefore, table_before}
-use Rattle.spv_declarations.proofs.Consequences.{type_before}
+use Rattle.spv_declarations.proofs.SoundConstants.{type_before}
 use Rattle.spv_declarations.proofs.SoundShapes.{sound_shape}
 use Rattle.spv_types.specs.declared.meaning.Kept.{Kept}
 use Rattle.spv_types.specs.Meanings.{words_numbered, words_in_entry, is_small}

@@ -19,7 +19,7 @@ use Rattle.spv_typing.specs.Kinds.{is_one_of, is_bool, is_int, is_vector, is_arr
 use Rattle.spv_typing.specs.Operations.{form_of, shape, operands_fit, is_vector_of, all_pick, components_of, literals_lead, part_at, part_along, part_behind, leads_to}
 use Rattle.spv_declarations.specs.Declarations.{says, entry}
 use Rattle.spv_declarations.specs.Sound.{IsBefore, table_before, IsSoundType}
-use Rattle.spv_declarations.proofs.Consequences.{type_before}
+use Rattle.spv_declarations.proofs.SoundConstants.{type_before}
 use Rattle.spv_declarations.proofs.Operations.{fitting-form, operation-entry, operands-known, computation_for, operands_for}
 use Rattle.spv_folding.proofs.Extraction.{insert_component}
 use Rattle.spv_folding.specs.Folding.{AreOperands}

@@ -16,7 +16,7 @@ use Rattle.spv_typing.specs.declared.shapes.Shape.{Shape}
 use Rattle.spv_typing.specs.Kinds.{is_constant, type_of, has_type}
 use Rattle.spv_typing.specs.Operations.{shape, has_shape, count_of, all_shaped, components_fit, condition_fits, operands_fit}
 use Rattle.spv_declarations.specs.Sound.{IsBefore, table_before}
-use Rattle.spv_declarations.proofs.Consequences.{type_before}
+use Rattle.spv_declarations.proofs.SoundConstants.{type_before}
 use Rattle.spv_declarations.proofs.SoundShapes.{sound_shape}
 use Rattle.spv_folding.specs.Folding.{AreOperands, AreComponents}
 use Rattle.spv_types.specs.declared.meaning.Kept.{Kept}

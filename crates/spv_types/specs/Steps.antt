@@ -10,6 +10,7 @@ use Rattle.spv_typing.specs.Types.{type_fits}
 use Rattle.spv_typing.specs.Operations.{spec_op_fits}
 use Rattle.spv_declarations.specs.Constants.{constant_fits}
 use Rattle.spv_declarations.specs.Declarations.{Declared, declared_before, says, entry, is_specialised}
+use Rattle.spv_types.specs.Extracting.{HasNumbers, ArePartsOf, part_types}
 use Rattle.spv_types.specs.Facts.{in_64_bits}
 use Rattle.spv_types.specs.Meanings.{IsValue, StandsFor}
 use Rattle.spv_declarations.specs.Sound.{AreInstructions, Unbroken}
@@ -62,3 +63,5 @@ pub record KeepsConstant (insts : List Instruction) (d : Declared) (i : Instruct
   pub value : IsValue d.table (length d.table) c.value type words
   pub cells : c.cells ≡ in_64_bits (length words)
   pub flag : c.is_specialised ≡ is_specialised (says insts) d.specialised i
+  -- parts that are kept are of the types of the composite's parts
+  pub parts : (numbers : List ℕ) → HasNumbers c.value numbers → ArePartsOf d.table (part_types type) numbers

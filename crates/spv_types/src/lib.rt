@@ -1,6 +1,7 @@
 //! Types, constants and global variables of a module, and the rules on them.
 #![tactic(auto)]
 
+mod building;
 mod composites;
 mod computed_constant;
 mod constants;
@@ -10,13 +11,14 @@ mod evaluation;
 mod extraction;
 pub mod facts;
 mod keeping;
+mod lookup;
 pub mod meaning;
 mod meanings;
-mod module_tables;
 mod operands;
 mod rules;
 mod words;
 
+pub use building::tables;
 pub use facts::TypeFacts;
 pub use meaning::{Constant, Kept, Value};
-pub use module_tables::{Tables, tables};
+pub use lookup::Tables;

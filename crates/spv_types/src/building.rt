@@ -9,6 +9,7 @@ ghost use Rattle.spv_types.specs.Whole.{Finds, HasMeanings, Rises};
 
 use crate::keeping::{keep, refused};
 use crate::meanings::Meanings;
+use crate::lookup::Tables;
 use crate::rules::{Standing, early_rule};
 use indexmap::IndexMap;
 use spv_base::Fault;
@@ -20,28 +21,6 @@ use spv_repeats::{repeated_decorations, repeated_types};
 use spv_seed::Seed;
 use spv_typing::Kinds;
 use std::alloc::Global;
-use std::marker::Model;
-
-/// What the ids of a module outside functions stand for: types, constants and global variables, in order of appearance,
-/// with their decorations. It borrows the module.
-#[derive(Debug, Drop)]
-pub struct Tables<'a> {
-    kinds: Kinds<'a>,
-    decorations: Decorations<'a>,
-    meanings: Meanings,
-}
-
-impl<'a> Model for Tables<'a> {
-    ghost use Rattle.std.specs.Prelude.{List};
-    ghost use Rattle.spv_module.specs.Instruction.{Instruction};
-    ghost use Rattle.spv_types.specs.Whole.{HasMeanings};
-
-    ghost Value = { List Instruction };
-
-    ghost view = { λ tables. tables.kinds };
-
-    ghost invariant = { λ tables. HasMeanings tables.kinds tables.decorations tables.meanings.entries };
-}
 
 /// Reads one instruction more: refuses the first rule that it breaks, or keeps what it declares.
 fn read(

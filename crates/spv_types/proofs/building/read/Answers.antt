@@ -2,7 +2,7 @@ use Rattle.std.proofs.Common.{sym, ◌∙◌}
 use Rattle.spv_module.specs.View.{seen}
 use Rattle.spv_declarations.specs.Declarations.{declared_before}
 use Rattle.spv_types.proofs.OneMore.{line-read, asked, early-read, begun-read, next-is, declared-read}
-use Rattle.spv_types.proofs.module_tables.read.Goals as goal
+use Rattle.spv_types.proofs.building.read.Goals as goal
 
 pub returns-then-is_line : goal.returns-then-is_line
 returns-then-is_line c = λ k reading.
