@@ -24,8 +24,9 @@ use Rattle.spv_types.specs.declared.meaning.Constant.{Constant}
 use Rattle.spv_types.specs.declared.meaning.Kept.{Kept}
 use Rattle.spv_types.specs.declared.meaning.Value.TheVariants.{Small}
 use Rattle.spv_types.specs.Facts.{in_64_bits}
-use Rattle.spv_types.specs.Meanings.{IsValue, is_small, joined, words_numbered, AllBelow}
-use Rattle.spv_types.specs.Declaring.{AreSound, AreScalars, HasParts, AddsWords, HasWords, IsReady, IsNumber}
+use Rattle.spv_types.specs.Meanings.{IsValue, is_small, joined, words_numbered}
+use Rattle.spv_types.specs.Declaring.{AreSound, AreScalars, HasWords, IsReady}
+use Rattle.spv_types.specs.Extracting.{HasNumbers}
 use Rattle.spv_types.proofs.Room.{in_64_bits-fits}
 
 -- ---- words of lists of constants
@@ -37,10 +38,6 @@ composed-append table (x ∷ xs) ys = ap (λ ws. words_at table x ++ ws) (compos
 pub joined-append : (table : Table) (xs ys : List ℕ) → joined table (xs ++ ys) ≡ joined table xs ++ joined table ys
 joined-append table [] ys = refl
 joined-append table (x ∷ xs) ys = ap (λ ws. words_numbered table x ++ ws) (joined-append table xs ys) ∙ sym (append_assoc (words_numbered table x) (joined table xs) (joined table ys))
-
-AllBelow-push : (n x : ℕ) (xs : List ℕ) → AllBelow n xs → x < n → AllBelow n (xs ++ x ∷ [])
-AllBelow-push n x [] h less = (less, tt)
-AllBelow-push n x (y ∷ ys) h less = (h.0, AllBelow-push n x ys h.1 less)
 
 composed_suc : (table : Table) (ids : List ℕ) (i : ℕ) → i < length ids → composed table (take (suc i) ids) ≡ composed table (take i ids) ++ words_at table (slice_index ids i)
 composed_suc table [] i h = absurd (omega arith)
@@ -54,22 +51,6 @@ composed-next table ids i h = let next : i + 1 ≡ suc i = omega arith in ap (λ
 
 pub length-next : (table : Table) (ids : List ℕ) (i : ℕ) → i < length ids → length (composed table (take (i + 1) ids)) ≡ length (composed table (take i ids)) + length (words_at table (slice_index ids i))
 length-next table ids i h = ap length (composed-next table ids i h) ∙ length-append (composed table (take i ids)) (words_at table (slice_index ids i))
-
-pub adds_number : (table : Table) (id n m : ℕ) (old new : List ℕ) → IsNumber table id n → m ≡ n → new ≡ old ++ m ∷ [] → AddsWords table old new (words_at table id)
-adds_number table id n m old new h same push = record {
-  words_are = ap (joined table) push ∙ joined-append table old (m ∷ []) ∙ ap (λ ws. joined table old ++ ws) (append-nil (words_numbered table m) ∙ ap (words_numbered table) same ∙ h.same);
-  below = λ b. subst (λ xs. AllBelow (length table) xs) (sym push) (AllBelow-push (length table) m old b (subst (λ x. x < length table) (sym same) h.within));
-}
-
-pub adds_nothing : (table : Table) (id : ℕ) (old : List ℕ) → meaning table id ≡ None → AddsWords table old old (words_at table id)
-adds_nothing table id old e = record { words_are = sym (append-nil (joined table old)) ∙ ap (λ ws. joined table old ++ ws) (sym (ap words_in e)); below = λ b. b }
-
-pub parts-next : (table : Table) (ids : List ℕ) (i : ℕ) (old new : List ℕ) → i < length ids → HasParts table (composed table (take i ids)) old → AddsWords table old new (words_at table (slice_index ids i)) →
-    HasParts table (composed table (take (i + 1) ids)) new
-parts-next table ids i old new less h adds = record {
-  words_are = composed-next table ids i less ∙ ap (λ ws. ws ++ words_at table (slice_index ids i)) h.words_are ∙ sym adds.words_are;
-  below = adds.below h.below;
-}
 
 -- ---- scalars
 
@@ -210,4 +191,5 @@ pub small_words : (table : Table) (t : DataType) (x : Operand) (c : Constant) �
 small_words table t x c v n fits small = record {
   value = subst (λ v. IsValue table (length table) v t (words_of x)) (sym v) (refl, small);
   cells = n ∙ sym (in_64_bits-fits x.len fits) ∙ ap in_64_bits (sym (length-words_of x));
+  parts = λ numbers h. absurd (subst (λ v. HasNumbers v numbers) v h);
 }

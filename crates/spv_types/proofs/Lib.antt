@@ -11,6 +11,7 @@ pub mod Members
 pub mod DeclaredTypes
 pub mod ConstantLemmas
 pub mod CompositeLemmas
+pub mod PartLemmas
 pub mod DeclarationLemmas
 pub mod OpcodeLemmas
 pub mod SuitLemmas
@@ -24,3 +25,4 @@ pub mod Tests
 pub mod EarlyRules
 pub mod Entries
 pub mod OneMore
+pub mod AllRead

@@ -36,6 +36,7 @@ use Rattle.spv_types.specs.declared.meaning.Kept.{Kept}
 use Rattle.spv_types.specs.declared.meaning.Value.TheVariants.{Zeros}
 use Rattle.spv_types.specs.Facts.{in_64_bits, facts}
 use Rattle.spv_types.specs.Meanings.{IsValue, is_small}
+use Rattle.spv_types.specs.Extracting.{HasNumbers}
 use Rattle.spv_types.specs.Steps.{KeepsConstant, constant_opcodes}
 use Rattle.spv_types.specs.Declaring.{IsReady, HasWords, DeclaresWords}
 use Rattle.spv_types.proofs.CompositeLemmas.{vector_of_scalars, vector_small, next_sound}
@@ -262,6 +263,7 @@ zeros_large insts k i ks t c f ready before e closed is v n =
     record {
       value = subst (λ v. IsValue table (length table) v u (zeros u)) (sym v) ((cells u, refl), shapeless_large insts k i ks t ready before e closed);
       cells = n ∙ ap (λ (f : TypeFacts). f.cells) is ∙ sym (ap in_64_bits (length-replicate (cells u) 0));
+      parts = λ numbers h. absurd (subst (λ v. HasNumbers v numbers) v h);
     }
 
 -- ---- operations
@@ -322,7 +324,7 @@ pub null_at : (insts : List Instruction) (k : ℕ) (i : Instruction) (ks : List 
 null_at insts k i ks c t ready listed is_o same has = null_declares insts k i ks c ready listed is_o (subst (λ (t : ℕ). HasZeros insts k t c) same has)
 
 pub keeps : (insts : List Instruction) (k : ℕ) (i : Instruction) (c : Constant) → DeclaresWords insts k i c → c.is_specialised ≡ is_specialised (says insts) (declared_before insts k).specialised i → KeepsConstant insts (declared_before insts k) i c
-keeps insts k i c h flag = record { type = h.type; words = h.words; stands = h.stands; value = h.has.value; cells = h.has.cells; flag = flag }
+keeps insts k i c h flag = record { type = h.type; words = h.words; stands = h.stands; value = h.has.value; cells = h.has.cells; flag = flag; parts = h.has.parts }
 
 pub if_ok_both : {A E : Type 0} (P Q R : A → Type 0) (r : Result A E) → ((a : A) → P a → Q a → R a) → IfOk r P → IfOk r Q → IfOk r R
 if_ok_both P Q R (Ok a) f h k = f a h k

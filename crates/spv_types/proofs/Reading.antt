@@ -68,7 +68,7 @@ instruction_or d None = d
 instruction_or d (Some y) = y
 
 -- one instruction more that breaks no rule
-unbroken_more : (insts : List Instruction) (k : ℕ) (i : Instruction) → Unbroken insts k → slice_get insts k ≡ Some i → rules_at insts (declared_before insts k) k i ≡ [] → Unbroken insts (k + 1)
+pub unbroken_more : (insts : List Instruction) (k : ℕ) (i : Instruction) → Unbroken insts k → slice_get insts k ≡ Some i → rules_at insts (declared_before insts k) k i ≡ [] → Unbroken insts (k + 1)
 unbroken_more insts k i h at passes j x below at_j = by (one_of below)
   where
     one_of : j < k + 1 → (j < k) ⊎ (j ≡ k)

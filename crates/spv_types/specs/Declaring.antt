@@ -3,8 +3,8 @@ use Rattle.std.specs.Prelude.{◌≡◌, ℕ, ◌<◌, Bool, true, false, List, 
 use Rattle.std.specs.Map.{lookup}
 use Rattle.spv_module.specs.Instruction.{Instruction}
 use Rattle.spv_value.specs.Eval.{AreBooleanWords}
-use Rattle.spv_meaning.specs.Constants.{Table, Meaning, IsConstant, meaning, words_at, typed_at}
-use Rattle.spv_meaning.specs.Types.{DataType}
+use Rattle.spv_meaning.specs.Constants.{Table, Meaning, IsConstant, meaning, words_at, typed_at, composed}
+use Rattle.spv_meaning.specs.Types.{DataType, cells}
 use Rattle.spv_typing.specs.declared.shapes.Shape.{Shape}
 use Rattle.spv_typing.specs.Kinds.{is_one_of, is_constant, type_of}
 use Rattle.spv_typing.specs.Operations.{shape}
@@ -18,7 +18,7 @@ use Rattle.spv_value.specs.declared.words.Operand.{Operand}
 use Rattle.spv_types.specs.Facts.{in_64_bits}
 use Rattle.spv_types.specs.Meanings.{IsValue, StandFor, AllBelow, words_numbered, joined, is_small, constant_of_kept}
 use Rattle.spv_types.specs.Steps.{IsNext}
-use Rattle.spv_types.specs.Extracting.{AreComposed}
+use Rattle.spv_types.specs.Extracting.{AreComposed, IsPart, ArePartsOf, part_types, HasNumbers}
 
 -- each Specialised id is a constant
 pub record OnlyConstants (d : Declared) : Type 0 where
@@ -38,10 +38,11 @@ pub record IsReady (insts : List Instruction) (k : ℕ) (i : Instruction) (entri
   pub sound : AreSound insts k
   pub stand : StandFor (declared_before insts k).table (declared_before insts k).specialised entries
 
--- what is kept of a constant has these words
+-- what is kept of a constant has these words, and parts of the types of the composite's parts
 pub record HasWords (table : Table) (t : DataType) (words : List ℕ) (c : Constant) : Type 0 where
   pub value : IsValue table (length table) c.value t words
   pub cells : c.cells ≡ in_64_bits (length words)
+  pub parts : (numbers : List ℕ) → HasNumbers c.value numbers → ArePartsOf table (part_types t) numbers
 
 abbrev pub meaning_in_entry : Option (ℕ × Meaning) → Option Meaning
 meaning_in_entry None = None
@@ -72,15 +73,42 @@ abbrev pub AreScalars : Table → (ids : List ℕ) → Type 0
 AreScalars table [] = Unit {0}
 AreScalars table (id ∷ ids) = (is_small (typed_at table id).type ≡ true) × ((length (words_at table id) ≡ 1) × AreScalars table ids)
 
--- entries of the table that have these words together
-pub record HasParts (table : Table) (words : List ℕ) (numbers : List ℕ) : Type 0 where
-  pub words_are : words ≡ joined table numbers
-  pub below : AllBelow (length table) numbers
+-- an id is a constant of a type, with as many words
+pub record IsConstantOf (table : Table) (t : DataType) (id : ℕ) : Type 0 where
+  pub words : List ℕ
+  pub stands : meaning table id ≡ Some (IsConstant t words)
+  pub sized : length words ≡ cells t
 
--- more entries, that have these words behind the others'
-pub record AddsWords (table : Table) (old new : List ℕ) (words : List ℕ) : Type 0 where
-  pub words_are : joined table new ≡ joined table old ++ words
+-- ids are constants of these types, one each
+abbrev pub AreConstantsOf : Table → List DataType → (ids : List ℕ) → Type 0
+AreConstantsOf table [] [] = Unit {0}
+AreConstantsOf table [] (id ∷ ids) = ⊥
+AreConstantsOf table (t ∷ ts) [] = ⊥
+AreConstantsOf table (t ∷ ts) (id ∷ ids) = IsConstantOf table t id × AreConstantsOf table ts ids
+
+-- entries of the table that have the words of the ids together; where the ids are constants of some types, the entries are too
+pub record HasParts (table : Table) (ids : List ℕ) (numbers : List ℕ) : Type 0 where
+  pub words_are : composed table ids ≡ joined table numbers
+  pub below : AllBelow (length table) numbers
+  pub typed : (ts : List DataType) → AreConstantsOf table ts ids → ArePartsOf table ts numbers
+
+-- one entry more, which is a constant of a type
+pub record AddsPart (table : Table) (t : DataType) (old new : List ℕ) : Type 0 where
+  pub number : ℕ
+  pub is : IsPart table t number
+  pub behind : new ≡ old ++ number ∷ []
+
+-- more entries, that have the words of the id behind the others'; where the id is a constant, it is one entry
+pub record AddsNumber (table : Table) (id : ℕ) (old new : List ℕ) : Type 0 where
+  pub words_are : joined table new ≡ joined table old ++ words_at table id
   pub below : AllBelow (length table) old → AllBelow (length table) new
+  pub typed : (t : DataType) → IsConstantOf table t id → AddsPart table t old new
+
+-- what is kept of a constant of these constituents, whatever array or struct it is
+pub record HasConstituents (table : Table) (ids : List ℕ) (c : Constant) : Type 0 where
+  pub value : (t : DataType) → is_small t ≡ false → IsValue table (length table) c.value t (composed table ids)
+  pub cells : c.cells ≡ in_64_bits (length (composed table ids))
+  pub typed : (ts : List DataType) → AreConstantsOf table ts ids → (numbers : List ℕ) → HasNumbers c.value numbers → ArePartsOf table ts numbers
 
 -- the flag of an id
 abbrev pub flag_at : List (ℕ × Kept) → (id : ℕ) → Bool

@@ -5,27 +5,33 @@ use Rattle.spv_base.specs.declared.fault.Fault.TheVariants as faults
 use Rattle.spv_base.specs.declared.fault.Refusal.{Refusal}
 use Rattle.spv_module.specs.First.{least}
 use Rattle.spv_module.specs.Instruction.{Instruction}
-use Rattle.spv_meaning.specs.Constants.{Table, Meaning}
+use Rattle.spv_meaning.specs.Constants.{Table, Meaning, IsConstant}
+use Rattle.spv_meaning.specs.Types.{DataType}
 use Rattle.spv_repeats.specs.Repeats.{occurs_before, repeats_before}
 use Rattle.spv_typing.specs.Kinds.{is_one_of}
 use Rattle.spv_declarations.specs.Broken.{rules_at, depth_fits}
 use Rattle.spv_declarations.specs.Declarations.{Declared, declared_before, says, entry, is_specialised}
 use Rattle.spv_declarations.specs.Sound.{AreInstructions, Unbroken, table_before}
+use Rattle.spv_types.specs.declared.meaning.Constant.{Constant}
 use Rattle.spv_types.specs.declared.meaning.Kept.{Kept}
 use Rattle.spv_types.specs.declared.rules.Standing.{Standing}
 use Rattle.spv_types.specs.Declaring.{OnlyConstants}
-use Rattle.spv_types.specs.Meanings.{StandFor, StandsFor}
+use Rattle.spv_types.specs.Extracting.{AreComposed, ArePartsOf, HasNumbers, part_types}
+use Rattle.spv_types.specs.Meanings.{StandFor, StandsFor, constant_of_kept}
 
 -- what is kept stands for what was declared
 pub record AreKept (d : Declared) (entries : List (ℕ × Kept)) : Type 0 where
   pub stand : StandFor d.table d.specialised entries
   pub only : OnlyConstants d
+  pub composed : AreComposed d.table entries
 
 -- what is kept of the id that the instruction declares stands for what it is, behind all others
 pub record KeepsOne (insts : List Instruction) (d : Declared) (i : Instruction) (r : ℕ) (kept : Kept) : Type 0 where
   pub meaning : Meaning
   pub declares : entry (says insts) d.table i ≡ Some (r, meaning)
   pub stands : (more : Table) (ids : List ℕ) → is_one_of ids r ≡ is_specialised (says insts) d.specialised i → StandsFor (d.table ++ more) ids (length d.table) r kept meaning
+  -- parts that are kept are of the types of the composite's parts
+  pub parts : (t : DataType) (words : List ℕ) (c : Constant) (numbers : List ℕ) → meaning ≡ IsConstant t words → constant_of_kept (Some kept) ≡ Some c → HasNumbers c.value numbers → ArePartsOf d.table (part_types t) numbers
 
 -- nothing is kept where nothing is declared
 abbrev pub KeepsEntry : List Instruction → Declared → Instruction → Option (ℕ × Kept) → Type 0

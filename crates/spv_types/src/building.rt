@@ -1,4 +1,4 @@
-ghost use Rattle.std.specs.Prelude.{◌≡◌, ℕ};
+ghost use Rattle.std.specs.Prelude.{◌≡◌, ◌||◌, ℕ};
 ghost use Rattle.spv_declarations.specs.Broken.{group_3};
 ghost use Rattle.spv_declarations.specs.Sound.{AreInstructions};
 ghost use Rattle.spv_module.specs.First.{first};
@@ -46,11 +46,11 @@ fn read(
     keep(alloc, kinds, decorations, meanings, inst)
 }
 
-/// Whether the instruction begins a function.
-fn begins_function(inst: &View) -> bool
-    ensures { result ≡ is_function (seen inst.now) }
+/// Whether a function has begun behind the instruction.
+fn has_begun(begun: bool, inst: &View) -> bool
+    ensures { result ≡ (begun || is_function (seen inst.now)) }
 {
-    inst.opcode() == op::FUNCTION
+    begun || inst.opcode() == op::FUNCTION
 }
 
 /// What is kept of all ids outside functions, or the first broken rule.
@@ -80,7 +80,7 @@ fn meanings_of(
             repeats: repeats.has(k),
         };
         read(alloc, kinds, decorations, &mut meanings, standing, &inst)?;
-        begun = begun || begins_function(&inst);
+        begun = has_begun(begun, &inst);
     }
     Ok(meanings)
 }

@@ -2,7 +2,7 @@
 ghost use Rattle.std.specs.Prelude.{◌≡◌, ℕ, ◌≤◌, ◌++◌, true, false, List, OnOk, IfOk, length, slice_index};
 ghost use Rattle.std.specs.List.{list_all};
 ghost use Rattle.spv_value.specs.Words.{words_of};
-ghost use Rattle.spv_meaning.specs.Constants.{Table, words_at, typed_at, type_at, composed};
+ghost use Rattle.spv_meaning.specs.Constants.{Table, typed_at, type_at, composed};
 ghost use Rattle.spv_meaning.specs.Types.{DataType};
 ghost use Rattle.spv_module.specs.Instruction.{Instruction};
 ghost use Rattle.spv_ids.specs.Ids.{is_defined_before};
@@ -11,12 +11,12 @@ ghost use Rattle.spv_declarations.specs.Declarations.{declared_before};
 ghost use Rattle.spv_declarations.specs.Sound.{IsBefore, table_before};
 ghost use Rattle.spv_types.specs.Facts.{in_64_bits};
 ghost use Rattle.spv_types.specs.Meanings.{StandFor, AllBelow, joined, is_small};
-ghost use Rattle.spv_types.specs.Declaring.{AreScalars, HasParts, AddsWords, HasWords, IsReady};
+ghost use Rattle.spv_types.specs.Declaring.{AreScalars, HasParts, AddsNumber, HasConstituents, HasWords, IsReady};
 
-use crate::operands::{cells_of, number_of, operand_of};
 use crate::facts::plus;
 use crate::meaning::{Constant, Value};
 use crate::meanings::Meanings;
+use crate::operands::{cells_of, number_of, operand_of};
 use spv_base::NoMemory;
 use spv_folding::{component, with_component, zeros};
 use spv_typing::Kinds;
@@ -66,7 +66,7 @@ fn cells_of_all(meanings: &Meanings, ids: &[u32]) -> Option<u64>
 
 /// Adds the number of the id among the meanings, where it has one. Ids have 32 bits, so that numbers do too.
 fn add_number(meanings: &Meanings, numbers: &mut Vec<u32>, id: u32) -> Result<(), NoMemory>
-    ensures { OnOk result ((table : Table) (specialised : List ℕ) → StandFor table specialised meanings.now.entries → AddsWords table numbers.old.items numbers.new.items (words_at table id)) }
+    ensures { OnOk result ((table : Table) (specialised : List ℕ) → StandFor table specialised meanings.now.entries → AddsNumber table id numbers.old.items numbers.new.items) }
 {
     let Some(number) = number_of(meanings, id) else {
         return Ok(());
@@ -82,7 +82,7 @@ fn add_number(meanings: &Meanings, numbers: &mut Vec<u32>, id: u32) -> Result<()
 
 /// The numbers of the ids among the meanings.
 fn numbers_of(alloc: Global, meanings: &Meanings, ids: &[u32]) -> Result<Vec<u32>, NoMemory>
-    ensures { IfOk result (λ numbers. (table : Table) (specialised : List ℕ) → StandFor table specialised meanings.now.entries → HasParts table (composed table ids.now) numbers.items) }
+    ensures { IfOk result (λ numbers. (table : Table) (specialised : List ℕ) → StandFor table specialised meanings.now.entries → HasParts table ids.now numbers.items) }
 {
     let mut numbers = Vec::new(alloc);
     'constituents: for id in ids {
@@ -99,7 +99,7 @@ fn parts(
     is_specialised: bool,
 ) -> Result<Constant, NoMemory>
     ensures flag { IfOk result (λ c. c.is_specialised ≡ is_specialised) }
-    ensures words { IfOk result (λ c. (table : Table) (specialised : List ℕ) (t : DataType) → StandFor table specialised meanings.now.entries → is_small t ≡ false → HasWords table t (composed table ids.now) c) }
+    ensures constituents { IfOk result (λ c. (table : Table) (specialised : List ℕ) → StandFor table specialised meanings.now.entries → HasConstituents table ids.now c) }
 {
     Ok(Constant {
         is_specialised,

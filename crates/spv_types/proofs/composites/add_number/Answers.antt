@@ -1,4 +1,4 @@
-use Rattle.spv_types.proofs.CompositeLemmas.{adds_number}
+use Rattle.spv_types.proofs.PartLemmas.{adds_number}
 use Rattle.spv_types.proofs.composites.add_number.Goals as goal
 
 pub returns-in_ok-push-in-Ok : goal.returns-in_ok-push-in-Ok

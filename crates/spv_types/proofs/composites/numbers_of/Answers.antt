@@ -1,5 +1,8 @@
-use Rattle.spv_types.proofs.CompositeLemmas.{parts-next}
+use Rattle.spv_types.proofs.PartLemmas.{no_parts, parts-next}
 use Rattle.spv_types.proofs.composites.numbers_of.Goals as goal
+
+pub constituents-init : goal.constituents-init
+constituents-init c = λ table specialised h. no_parts table c.new-numbers.result.items c.new-numbers.ensures.items
 
 pub constituents-preserved : goal.constituents-preserved
 constituents-preserved c = λ table specialised h.

@@ -18,6 +18,7 @@ pub returns-then-is_type : goal.returns-then-is_type
 returns-then-is_type c = λ k next are.
     subst (λ (r : ℕ). KeepsOne c.args.kinds.now (declared_before c.args.kinds.now k) (seen c.args.inst.now) r c.declared_type-kept.result) (sym c.word.ensures)
     (type_one c.args.kinds.now k (seen c.args.inst.now) c.declared_type-kept.result next
+      (sym (ap (is_one_of type_opcodes) c.opcode-opcode.ensures) ∙ sym c.is_type.ensures ∙ c.if-is_type.true)
       (c.declared_type-kept.ensures (table_before c.args.kinds.now k) (declared_before c.args.kinds.now k).specialised are.stand))
 
 pub returns-in_ok-constant : goal.returns-in_ok-constant
@@ -26,7 +27,7 @@ returns-in_ok-constant c = λ k next are.
     (constant_one c.args.kinds.now k (seen c.args.inst.now) c.in_ok-constant.constant
       (c.in_ok-constant.ensures k next
         (sym (ap (is_one_of constant_opcodes) c.opcode-opcode.ensures) ∙ sym c.is_constant.ensures ∙ c.if-is_constant.true)
-        are.only (sound_before c.args.kinds.now k (seen c.args.inst.now) next) are.stand))
+        are.composed are.only (sound_before c.args.kinds.now k (seen c.args.inst.now) next) are.stand))
 
 pub returns-then-is_global : goal.returns-then-is_global
 returns-then-is_global c = λ k next are.
