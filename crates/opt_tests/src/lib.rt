@@ -4,4 +4,6 @@
 #![tactic(auto)]
 
 #[cfg(test)]
+mod rules;
+#[cfg(test)]
 mod tests;

@@ -1,5 +1,5 @@
 -- The steps from bytes to a module and back answer what is said of the bytes.
-use Rattle.std.proofs.Common.{◌≡◌, ℕ, ◌≤◌, List, length, Option, Some, None, Result, Ok, Err, refl, sym, ap, subst, ◌∙◌}
+use Rattle.std.proofs.Common.{◌≡◌, ℕ, ◌≤◌, List, length, Option, Some, None, Result, Ok, Err, sym, ap, subst, ◌∙◌}
 use Rattle.std.specs.Bool.{⊤}
 use Rattle.spv_base.specs.declared.fault.Fault.{Fault}
 use Rattle.spv_base.specs.declared.fault.Fault.TheVariants as faults
@@ -13,10 +13,11 @@ use Rattle.spv_module.specs.Decode.{Decodes}
 use Rattle.spv_module.specs.First.{first, first_group}
 use Rattle.spv_module.specs.Instruction.{Instruction}
 use Rattle.spv_module.specs.Layout.{RisesTo}
+use Rattle.spv_types.specs.Whole.{Finds}
 use Rattle.spv_words.specs.declared.fault.WordsFault.{WordsFault}
 use Rattle.spv_words.specs.declared.fault.WordsFault.TheVariants.{ShortInput, OddLength, NotSpirv, NoMemory}
 use Rattle.spv_words.specs.Words.{Reads, words_in, bytes_of_words}
-use Rattle.opt_top.specs.Answer.{byte_rule, at, first_in_module, in_rules, of_words, module_in, written_of, answer_of, stripped, Answers, AnswersModule, Finds, ByteFault}
+use Rattle.opt_top.specs.Answer.{in_rules, of_words, module_in, written_of, answer_of, stripped, Answers, AnswersModule, ByteFault}
 
 -- what is looked at behind `decode`: the rules on declarations, then the form
 abbrev pub behind_decode : (end : ℕ) → List Instruction → Option Refusal
@@ -55,18 +56,22 @@ pub module_admitted : (bytes words : List ℕ) (code : Code) → words_in bytes 
     behind_decode (length words) code.insts ≡ None → module_in bytes ≡ Ok code
 module_admitted bytes words code e h finds = in_module bytes words code None e h finds ∙ ap Ok (sym h.1)
 
+-- what the looks behind `decode` answered
+abbrev pub Looks : (words : List ℕ) → Code → Result ⊤ Fault → Type 0
+Looks words code found = Finds (behind_decode (length words) code.insts) (λ _. ⊤) found
+
 found_refused : (bytes words : List ℕ) (code : Code) (fault : Fault) → words_in bytes ≡ Ok words → Decodes words (Ok code) →
-    Finds (behind_decode (length words) code.insts) (Err fault) → AnswersModule (module_in bytes) (Err fault)
+    Looks words code (Err fault) → AnswersModule (module_in bytes) (Err fault)
 found_refused bytes words code (Refused refusal) e h finds = in_module bytes words code (Some refusal) e h finds
 found_refused bytes words code Nesting e h finds = finds
 found_refused bytes words code faults.NoMemory e h finds = tt
 
 -- a module that breaks one behind them
 pub module_broken : (bytes words : List ℕ) (code : Code) (fault : Fault) (found : Result ⊤ Fault) (answer : Result Code Fault) → words_in bytes ≡ Ok words →
-    Decodes words (Ok code) → found ≡ Err fault → answer ≡ Err fault → Finds (behind_decode (length words) code.insts) found → AnswersModule (module_in bytes) answer
+    Decodes words (Ok code) → found ≡ Err fault → answer ≡ Err fault → Looks words code found → AnswersModule (module_in bytes) answer
 module_broken bytes words code fault found answer e h is same finds =
     subst (AnswersModule (module_in bytes)) (sym same)
-    (found_refused bytes words code fault e h (subst (Finds (behind_decode (length words) code.insts)) is finds))
+    (found_refused bytes words code fault e h (subst (Looks words code) is finds))
 
 -- the places of a module that was read rise
 pub decoded_rises : (words : List ℕ) (code : Code) → 5 ≤ length words → Decodes words (Ok code) → RisesTo (length words) 5 code.insts

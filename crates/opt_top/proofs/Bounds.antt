@@ -1,13 +1,13 @@
 -- The bound of the ids of instructions that break no rule.
-use Rattle.std.proofs.Common.{◌≡◌, ℕ, ◌+◌, ◌<◌, ◌≤◌, ◌^◌, max, Bool, true, false, cond, ◌&&◌, ◌||◌, ◌==◌, nat_le, List, [], ◌∷◌, ◌++◌, length, map, refl, sym, ap, subst, ◌∙◌, arith, Result, Ok, Err}
-use Rattle.std.specs.List.{All, AllByRecursion as ByRecursion, filter, flat_map, list_any, zip}
+use Rattle.std.proofs.Common.{◌≡◌, ℕ, ◌<◌, ◌≤◌, ◌^◌, max, Bool, true, false, cond, ◌&&◌, ◌||◌, ◌==◌, nat_le, List, [], ◌∷◌, ◌++◌, length, map, refl, sym, ap, ◌∙◌, arith, Result, Ok, Err}
+use Rattle.std.specs.List.{All, AllByRecursion as ByRecursion, filter, list_any, zip}
 use Rattle.std.proofs.lemmas.List.Elements.{recursion_from_All}
 use Rattle.std.proofs.lemmas.Bool.{false≢true, leb-false}
 use Rattle.spv_grammar.specs.declared.kind.Role.{Role}
 use Rattle.spv_grammar.specs.Operands.{roles_of}
 use Rattle.spv_grammar.specs.Roles.{names_id}
 use Rattle.spv_form.specs.Bound.{words_with, named_ids, greatest, bound_of_ids}
-use Rattle.spv_module.specs.Instruction.{Instruction, roles, parts, instruction_rules, roles_rules, is_out_of_bound}
+use Rattle.spv_module.specs.Instruction.{Instruction, roles, parts, instruction_rules, is_out_of_bound}
 use Rattle.spv_module.proofs.Ids.{is_bad_part, no_bad_parts}
 use Rattle.std.specs.List.{slice_index}
 use Rattle.spv_module.specs.Code.{Code}

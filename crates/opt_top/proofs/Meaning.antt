@@ -1,20 +1,19 @@
 -- What is written means what was read: only instructions that say nothing went.
-use Rattle.std.proofs.Common.{◌≡◌, ℕ, ◌≤◌, Bool, true, false, ◌&&◌, ◌||◌, not, List, [], ◌∷◌, length, filter, map, Option, Some, None, Result, Ok, Err, refl, sym, ap, subst, ◌∙◌, arith}
-use Rattle.std.specs.List.{slice_index}
+use Rattle.std.proofs.Common.{◌≡◌, ℕ, true, false, List, Option, Some, None, Result, Ok, Err, refl, arith}
 use Rattle.std.proofs.lemmas.Bool.Decides.{nat_tests}
 use Rattle.spv_base.specs.declared.fault.Refusal.{Refusal}
 use Rattle.spv_machine.specs.Dispatch.{Dispatch}
 use Rattle.spv_machine.specs.Laws.{MeansSame}
-use Rattle.spv_meaning.specs.Statements.{is_silent, words_of}
+use Rattle.spv_meaning.specs.Statements.{is_silent}
 use Rattle.spv_machine.proofs.Silence.{silence_law}
 use Rattle.spv_machine.proofs.Spelling.{spelled_again, cut_counted, filtered_counted}
-use Rattle.spv_module.specs.Code.{Code, code_of, cut, spelling}
+use Rattle.spv_module.specs.Code.{Code, code_of, spelling}
 use Rattle.spv_module.specs.Instruction.{Instruction}
 use Rattle.spv_words.specs.declared.fault.WordsFault.{WordsFault}
 use Rattle.spv_words.specs.Words.{words_in, HasHeader}
 use Rattle.opt_top.specs.Answer.{first_in_module, in_rules, of_words, module_in, stripped}
 use Rattle.opt_top.specs.Means.{Means}
-use Rattle.opt_top.specs.Strip.{is_debug, stays, stripped_insts}
+use Rattle.opt_top.specs.Strip.{stays}
 
 -- words of which the module was made
 pub record IsMadeOf (bytes : List ℕ) (code : Code) : Type 0 where

@@ -1,5 +1,5 @@
 -- A run that read its input and has its answer, and could not write it, stopped as a fault of writing.
-use Rattle.std.proofs.Common.{◌≡◌, ℕ, ◌<◌, ◌≤◌, ◌⊎◌, ◌++◌, List, length, Option, Ok, refl, sym, ap, subst, ◌∙◌}
+use Rattle.std.proofs.Common.{◌≡◌, ℕ, ◌<◌, ◌≤◌, ◌⊎◌, ◌++◌, List, length, Ok, refl, sym, ap, subst, ◌∙◌}
 use Rattle.std.specs.Option.{option_map, IfSome, IsSomeAnd}
 use Rattle.opt_outside.specs.Seen.{Seen, Rises, MayAsk, MayOpen}
 use Rattle.opt_top.specs.Answer.{answer_of}

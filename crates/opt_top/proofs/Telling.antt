@@ -1,10 +1,10 @@
 -- Telling a message changes nothing of what else a run says.
-use Rattle.std.proofs.Common.{◌≡◌, ℕ, ◌+◌, List, ◌++◌, Option, Some, None, refl, sym, ap, subst, ◌∙◌, inl, inr}
+use Rattle.std.proofs.Common.{◌≡◌, ℕ, List, ◌++◌, Option, Some, None, sym, ap, subst, ◌∙◌, inl, inr}
 use Rattle.std.specs.Option.{option_map}
 use Rattle.opt_outside.specs.Seen.{Seen, Rises}
 use Rattle.opt_top.specs.declared.status.Status.{Status}
 use Rattle.opt_top.specs.declared.status.Status.TheVariants.{Done, Refused, Usage, ReadFault, WriteFault, Limit, NoMemory}
-use Rattle.opt_top.specs.Ends.{EndsAtOnce, EndsAtReading, EndsForMemory, EndsAtLimit, EndsRefused, EndsAtWriting, EndsDone, Stops, ToldAll, ToldFront, Told, Ends}
+use Rattle.opt_top.specs.Ends.{Stops, Told, Ends}
 use Rattle.opt_top.specs.Job.{FileJob}
 use Rattle.opt_top.specs.Status.{message_of}
 

@@ -71,13 +71,6 @@ AnswersModule expected (Err (faults.Refused refusal)) = expected ≡ Err refusal
 AnswersModule expected (Err faults.Nesting) = ⊥
 AnswersModule expected (Err faults.NoMemory) = ⊤
 
--- what a look at a module answers: this refusal or none, or that memory was wanting
-abbrev pub Finds : Option Refusal → Result ⊤ Fault → Type 0
-Finds expected (Ok done) = expected ≡ None
-Finds expected (Err (faults.Refused refusal)) = expected ≡ Some refusal
-Finds expected (Err faults.Nesting) = ⊥
-Finds expected (Err faults.NoMemory) = ⊤
-
 -- the fault of bytes that break a rule
 abbrev pub ByteFault : WordsFault → Fault → Type 0
 ByteFault NoMemory fault = fault ≡ faults.NoMemory

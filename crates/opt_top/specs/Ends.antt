@@ -1,5 +1,5 @@
 -- How a run of the optimiser may end, and what its outside has seen of it then.
-use Rattle.std.specs.Prelude.{◌≡◌, ◌≢◌, ℕ, ◌+◌, ◌<◌, ◌≤◌, ◌⊎◌, List, [], ◌∷◌, ◌++◌, length, Option, Some, None, Result, Ok, Err, option_map, IfSome, IsSomeAnd}
+use Rattle.std.specs.Prelude.{◌≡◌, ℕ, ◌<◌, ◌≤◌, ◌⊎◌, List, ◌++◌, length, Option, Some, None, Ok, Err, option_map, IfSome, IsSomeAnd}
 use Rattle.opt_outside.specs.Seen.{Seen, Rises, last_count, with_name, MayAsk, opened_now, MayOpen}
 use Rattle.spv_base.specs.declared.fault.Refusal.{Refusal}
 use Rattle.opt_top.specs.declared.status.Status.{Status}

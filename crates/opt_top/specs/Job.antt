@@ -1,5 +1,5 @@
 -- The job that the words of a command give.
-use Rattle.std.specs.Prelude.{ℕ, Bool, true, false, cond, ◌==◌, ◌&&◌, ◌||◌, not, List, [], ◌∷◌, map, Option, Some, None, codes, nat_eq, slice_index}
+use Rattle.std.specs.Prelude.{ℕ, Bool, true, cond, ◌==◌, ◌||◌, not, List, [], ◌∷◌, map, Option, Some, None, codes, nat_eq}
 use Rattle.std.specs.Cmp.Lexicographic.{pointwise}
 use Rattle.std.specs.Rc.{rc_str_bytes}
 use Rattle.std.specs.declared.rc.RcStr.{RcStr}

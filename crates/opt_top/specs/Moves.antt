@@ -1,5 +1,5 @@
 -- What the reading and the writing loop change in what the outside has seen.
-use Rattle.std.specs.Prelude.{◌≡◌, ℕ, ◌+◌, ◌<◌, ◌≤◌, ◌⊎◌, List, [], ◌∷◌, ◌++◌, length, take, Option, Some, None, MatchOption, IsSomeAnd, IfSome, option_map}
+use Rattle.std.specs.Prelude.{◌≡◌, ℕ, ◌+◌, ◌<◌, ◌≤◌, ◌⊎◌, List, [], ◌++◌, length, None, MatchOption, IsSomeAnd, IfSome, option_map}
 use Rattle.opt_outside.specs.Seen.{Seen, Rises, with_name, MayAsk, opened_now, MayOpen}
 
 -- Bytes moved from the open input to the end of what was read: together they stay.

@@ -1,8 +1,8 @@
 -- A module without what says something of its source alone.
-use Rattle.std.specs.Prelude.{ℕ, Bool, ◌==◌, ◌&&◌, not, List, [], ◌∷◌, filter}
+use Rattle.std.specs.Prelude.{Bool, ◌==◌, ◌&&◌, not, List, [], ◌∷◌, filter}
 use Rattle.std.specs.List.{list_any}
 use Rattle.spv_opcodes.specs.declared.op.TheConstants as op
-use Rattle.spv_module.specs.Code.{Code, is_line}
+use Rattle.spv_module.specs.Code.{is_line}
 use Rattle.spv_module.specs.Instruction.{Instruction, opcode}
 
 -- strings, sources, names and notes on how the module was processed

@@ -1,18 +1,20 @@
-ghost use Rattle.std.specs.Prelude.{◌≡◌, ◌<◌, ◌≤◌, ◌^◌, IfOk, Ok, length};
+ghost use Rattle.std.specs.Prelude.{◌≡◌, ◌<◌, ◌≤◌, ◌^◌, IfOk, Ok, length, ⊤};
 ghost use Rattle.spv_declarations.specs.Broken.{group_3};
 ghost use Rattle.spv_form.specs.Bound.{bound_of_ids};
 ghost use Rattle.spv_form.specs.OneBlock.{first_outside};
 ghost use Rattle.spv_module.specs.Code.{spelling};
 ghost use Rattle.spv_module.specs.First.{first, first_group};
 ghost use Rattle.spv_module.specs.Layout.{RisesTo};
+ghost use Rattle.spv_types.specs.Whole.{Finds};
 ghost use Rattle.spv_words.specs.Words.{bytes_of_words, words_in};
 ghost use Rattle.opt_top.specs.Means.{Means};
-ghost use Rattle.opt_top.specs.Answer.{Answers, AnswersModule, ByteFault, Finds, answer_of, module_in, stripped};
+ghost use Rattle.opt_top.specs.Answer.{Answers, AnswersModule, ByteFault, answer_of, module_in, stripped};
 
 use crate::strip::strip_debug;
-use spv_base::{ByteList, Fault, NoMemory, Refusal, Words, rule};
+use spv_base::{ByteList, Fault, NoMemory, Refusal, rule};
 use spv_form::outside_form;
 use spv_module::{Flat, decode, encode};
+use spv_types::tables;
 use spv_words::{WordsFault, bytes_of, words_of};
 use std::alloc::Global;
 
@@ -29,18 +31,10 @@ fn byte_fault(fault: WordsFault) -> Fault
     Fault::Refused(Refusal { rule, at: 0 })
 }
 
-/// Stands in for the tables.
-fn tables(alloc: Global, flat: &Flat) -> Result<(), Fault>
-    ensures { Finds (first (group_3 flat.now.insts)) result }
-{
-    let _ = Words::new(alloc);
-    Err(Fault::NoMemory)
-}
-
 /// Refuses a module that breaks a rule on its declarations, or is not of the one-block form.
 fn check_module(alloc: Global, flat: &Flat, end: u32) -> Result<(), Fault>
     requires { RisesTo end 5 flat.now.insts }
-    ensures { Finds (first_group (first (group_3 flat.now.insts)) (first_outside end flat.now.insts)) result }
+    ensures { Finds (first_group (first (group_3 flat.now.insts)) (first_outside end flat.now.insts)) (λ _. ⊤) result }
 {
     tables(alloc, flat)?;
     match outside_form(flat, end) {

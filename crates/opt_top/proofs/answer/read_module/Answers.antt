@@ -1,4 +1,4 @@
-use Rattle.std.proofs.Common.{◌≡◌, ℕ, ◌≤◌, ◌∙◌, List, length, sym, ap, subst, Result, Ok, Err, arith}
+use Rattle.std.proofs.Common.{ℕ, ◌≤◌, ◌∙◌, List, length, sym, ap, subst, Ok, Err}
 use Rattle.std.proofs.lemmas.Result.{err_from_is_err_and}
 use Rattle.spv_module.specs.Decode.{Decodes}
 use Rattle.opt_top.proofs.Answering.{bytes_refused, decode_refused, decoded_rises, module_admitted, module_broken}
@@ -28,7 +28,7 @@ returns-in_err-check_module-clause-answer c =
 pub returns-clause-answer : goal.returns-clause-answer
 returns-clause-answer c =
     module_admitted c.args.bytes.now c.as_slice-words.result.now c.in_ok-flat.flat (c.in-Ok.ensures.answer ∙ ap Ok (sym c.as_slice-words.ensures))
-    c.in_ok-flat.ensures.answer c.in_ok-check_module.ensures
+    c.in_ok-flat.ensures.answer c.in_ok-check_module.ensures.0
 
 pub returns-clause-bound : goal.returns-clause-bound
 returns-clause-bound c = decoded-small c.as_slice-words.result.now c.in_ok-flat.flat c.in_ok-flat.ensures.answer c.in_ok-flat.ensures.each

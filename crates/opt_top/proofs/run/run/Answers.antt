@@ -1,7 +1,6 @@
-use Rattle.std.proofs.Common.{rules, ◌≡◌, ℕ, ◌≤◌, List, length, subst}
+use Rattle.std.proofs.Common.{rules, subst}
 use Rattle.opt_top.specs.Ends.{Stops}
 use Rattle.opt_top.specs.JobSeen.{seen}
-use Rattle.opt_top.specs.Moves.{FaultsOutput}
 use Rattle.opt_top.specs.declared.status.Status.TheVariants.{WriteFault}
 use Rattle.opt_top.proofs.Stopping.{stops_at_writing}
 use Rattle.opt_top.proofs.run.run.Goals as goal
