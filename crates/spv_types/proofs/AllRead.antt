@@ -34,6 +34,7 @@ read-begins insts entries rises is =
   where
     no_truth : false ≡ true → ⊥
     no_truth h = cc
+
     no_entry : {X : Type 0} {x : X} (n : ℕ) → slice_get [] n ≡ Some x → ⊥
     no_entry n h = cc
 
@@ -69,7 +70,7 @@ read-goes-on insts k i begun behind entries new are at reads is =
       read = read-next are.end insts k i are.read at reads.0;
       kept = reads.1;
       begun_is =
-        ap (λ (n : ℕ). (declared_before insts n).begun) (sym e) ∙ ap (λ (d : Declared). d.begun) (declared-more insts k i at) ∙ ap (λ (b : Bool). b || is_function i) are.begun_is ∙ sym is;
+          ap (λ (n : ℕ). (declared_before insts n).begun) (sym e) ∙ ap (λ (d : Declared). d.begun) (declared-more insts k i at) ∙ ap (λ (b : Bool). b || is_function i) are.begun_is ∙ sym is;
     }
 
 pub read-stops : {T : Type 0} (Holds : T → Type 0) (insts : List Instruction) (k : ℕ) (i : Instruction) (begun : Bool) (entries new : List (ℕ × Kept)) (fault : Fault) → AreRead insts k begun entries → slice_get insts k ≡ Some i →
@@ -84,11 +85,12 @@ read-stops Holds insts k i begun entries new faults.NoMemory are at reads = read
 
 pub read-ends : (insts : List Instruction) (k : ℕ) (begun : Bool) (entries : List (ℕ × Kept)) → AreInstructions insts → AreRead insts k begun entries → k ≡ length insts →
     (first (group_3 insts) ≡ None) × HasMeanings insts insts entries
-read-ends insts k begun entries instructions are end =
-    (read-all are.end insts k are.read (omega (arith, end)),
-    record {
-      same = refl;
-      instructions = instructions;
-      unbroken = subst (Unbroken insts) end are.read.unbroken;
-      stand = (subst (λ (n : ℕ). AreKept (declared_before insts n) entries) end are.kept).stand;
-    })
+read-ends insts k begun entries instructions are end = (
+  read-all are.end insts k are.read (omega (arith, end)),
+  record {
+    same = refl;
+    instructions = instructions;
+    unbroken = subst (Unbroken insts) end are.read.unbroken;
+    stand = (subst (λ (n : ℕ). AreKept (declared_before insts n) entries) end are.kept).stand;
+  },
+)

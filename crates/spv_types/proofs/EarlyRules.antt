@@ -91,6 +91,7 @@ one_more n b rules found last h = record { from = from_unless n b rules below; l
   where
     below : AllFrom n rules
     below = from_less n (n + 1) rules (omega arith) h.from
+
     is : (b : Bool) → least (unless b n ++ rules) ≡ option_or (cond b found (Some n)) last
     is true = h.least_is
     is false = ap Some (least_itself n (least rules) (least_is_from n rules below))

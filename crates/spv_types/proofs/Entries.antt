@@ -90,7 +90,7 @@ type_one insts k i k1 next listed keeps =
       declares = m.1;
       stands = λ more ids same. m.2 (table_before insts k ++ more) ids (length (table_before insts k));
       parts = λ t words c numbers is constant has.
-        absurd (no_constant (opcode i) m.0 t words listed (entry-gives (says insts) (table_before insts k) i _ m.0 (next.instructions k i next.at) m.1).suits is);
+          absurd (no_constant (opcode i) m.0 t words listed (entry-gives (says insts) (table_before insts k) i _ m.0 (next.instructions k i next.at) m.1).suits is);
     }
 
 -- ---- constants
@@ -100,9 +100,9 @@ sound_before insts k i next =
     record {
       constants = λ id before is. sound_constant insts next.instructions k id next.unbroken next.outside before is;
       booleans = λ id s before is shaped boolean.
-        let sound = sound_constant insts next.instructions k id next.unbroken next.outside before is in
-        let words = sound_booleans insts next.instructions k id next.unbroken next.outside before is s shaped boolean _ sound.words sound.stands in
-        rw sound.stands words;
+          let sound = sound_constant insts next.instructions k id next.unbroken next.outside before is in
+          let words = sound_booleans insts next.instructions k id next.unbroken next.outside before is s shaped boolean _ sound.words sound.stands in
+          rw sound.stands words;
     }
 
 abbrev constant_type : Meaning → DataType
@@ -126,8 +126,8 @@ constant_one insts k i c keeps =
       declares = keeps.stands;
       stands = λ more ids same. (IsValue-more table more (length table) c.value keeps.type keeps.words (omega arith) keeps.value, (keeps.cells, keeps.flag ∙ sym same));
       parts = λ t words c1 numbers is constant has.
-        subst (λ (t : DataType). ArePartsOf table (part_types t) numbers) (ap constant_type is)
-        (keeps.parts numbers (subst (λ (c : Constant). HasNumbers c.value numbers) (sym (ap (constant_or c) constant)) has));
+          subst (λ (t : DataType). ArePartsOf table (part_types t) numbers) (ap constant_type is)
+          (keeps.parts numbers (subst (λ (c : Constant). HasNumbers c.value numbers) (sym (ap (constant_or c) constant)) has));
     }
 
 -- ---- variables
@@ -287,9 +287,11 @@ composed-more insts d i r k entries one are sized =
   where
     as_many : length entries ≡ length d.table
     as_many = StandFrom-length d.table d.specialised 0 entries d.table are.stand
+
     by_words : {n : ℕ} (id : ℕ) (t : DataType) (words : List ℕ) → IsIn d.table (r, one.meaning) n (id, IsConstant t words) → length words ≡ cells t
     by_words {n} id t words (inl h) = are.composed.sized n id t words h
     by_words id t words (inr h) = sized t words (ap (entry_meaning one.meaning) h.1)
+
     by_parts : (n id : ℕ) (t : DataType) (words : List ℕ) (c : Constant) (numbers : List ℕ) →
         IsIn d.table (r, one.meaning) n (id, IsConstant t words) →
         constant_of_kept (second (slice_get (entries ++ (r, k) ∷ []) n)) ≡ Some c → HasNumbers c.value numbers → ArePartsOf d.table (part_types t) numbers
@@ -323,8 +325,8 @@ more_specialised : (insts : List Instruction) (d : Declared) (i : Instruction) (
 more_specialised insts d i r k entries one are sized new special t words is begun =
     record {
       stand =
-        StandFor-push d.table d.specialised (d.specialised ++ r ∷ []) r k one.meaning entries are.stand (SameFlags-new d.specialised r d.table new)
-        (one.stands ((r, one.meaning) ∷ []) (d.specialised ++ r ∷ []) (own_of_more d.specialised r ∙ sym special));
+          StandFor-push d.table d.specialised (d.specialised ++ r ∷ []) r k one.meaning entries are.stand (SameFlags-new d.specialised r d.table new)
+          (one.stands ((r, one.meaning) ∷ []) (d.specialised ++ r ∷ []) (own_of_more d.specialised r ∙ sym special));
       only = record { at = λ id h. by id (one_of_more d.specialised r id h) };
       composed = composed-more insts d i r k entries one are sized;
     }
@@ -373,12 +375,15 @@ kept-more insts k i r k1 entries next clean are one =
   where
     sized : IsSized one.meaning
     sized = sized_behind insts k i r one.meaning next clean one.declares
+
     new : IsNew (declared_before insts k) r
     new = declares_new insts next.instructions k i r one.meaning next.at clean one.declares
+
     behind : (d : Declared) → d.begun ≡ false → entry (says insts) d.table i ≡ Some (r, one.meaning) →
         AreKeptIn (d.table ++ (r, one.meaning) ∷ []) (cond (is_specialised (says insts) d.specialised i) (d.specialised ++ slice_index i.words 2 ∷ []) d.specialised) (entries ++ (r, k1) ∷ []) →
         AreKept (declare (says insts) d i) (entries ++ (r, k1) ∷ [])
     behind d outside is h = rw (outside, is) (h (false || is_function i))
+
     by : (b : Bool) → is_specialised (says insts) (declared_before insts k).specialised i ≡ b →
         AreKeptIn (table_before insts k ++ (r, one.meaning) ∷ []) (cond b ((declared_before insts k).specialised ++ slice_index i.words 2 ∷ []) (declared_before insts k).specialised) (entries ++ (r, k1) ∷ [])
     by false plain = more_known insts (declared_before insts k) i r k1 entries one are sized new.not_specialised plain

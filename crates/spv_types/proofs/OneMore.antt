@@ -120,9 +120,10 @@ pub begun-read : (insts : List Instruction) (k : ℕ) (i : Instruction) (standin
 begun-read insts k i standing entries reading plain early begun =
     let d = declared_before insts k in
     let is_begun = reading.begun_is ∙ begun in
-    let deep : depth_fits (cond d.begun None (entry (says insts) d.table i)) ≡ true = ap (λ (b : Bool). depth_fits (cond b None (entry (says insts) d.table i))) is_begun in
-    (least-none (rules_at insts d k i) (rules-late insts d k i true plain (at_number insts k i standing None reading.number_is early) deep),
-    kept-same insts k i entries reading.at (λ outside. absurd (clash d.begun is_begun outside)) (λ outside. absurd (clash d.begun is_begun outside)) reading.kept)
+    let deep : depth_fits (cond d.begun None (entry (says insts) d.table i)) ≡ true = ap (λ (b : Bool). depth_fits (cond b None (entry (says insts) d.table i))) is_begun in (
+      least-none (rules_at insts d k i) (rules-late insts d k i true plain (at_number insts k i standing None reading.number_is early) deep),
+      kept-same insts k i entries reading.at (λ outside. absurd (clash d.begun is_begun outside)) (λ outside. absurd (clash d.begun is_begun outside)) reading.kept,
+    )
   where
     clash : (b : Bool) → b ≡ true → b ≡ false → ⊥
     clash true t f = cc
@@ -168,6 +169,7 @@ declared-read insts k i standing entries new result reading plain early outside 
     late b deep =
         rules-late insts (declared_before insts k) k i b plain (at_number insts k i standing None reading.number_is early)
         (ap (λ (c : Bool). depth_fits (cond c None (entry (says insts) (table_before insts k) i))) (reading.begun_is ∙ outside) ∙ deep)
+
     by : (result : Result ⊤ Fault) → Declares insts k i new result → Reads insts k i new result
     by (Ok done) h = let clean = least-none (rules_at insts (declared_before insts k) k i) (late true h.0) in (clean, h.1 clean)
     by (Err (faults.Refused refusal)) h =

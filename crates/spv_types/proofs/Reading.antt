@@ -73,6 +73,7 @@ unbroken_more insts k i h at passes j x below at_j = by (one_of below)
   where
     one_of : j < k + 1 → (j < k) ⊎ (j ≡ k)
     one_of below = grind (arith)
+
     by : (j < k) ⊎ (j ≡ k) → rules_at insts (declared_before insts j) j x ≡ []
     by (inl lower) = h j x lower at_j
     by (inr same) =
@@ -87,9 +88,9 @@ read-next end insts k i h at passes =
       from = suc i.offset;
       rises = (at_next end insts k i h at).1;
       rest =
-        first_at end insts k i h at
-        ∙ ap (λ (rules : List ℕ). at_place i.offset (least rules) (first (group_3_from insts (declare (says insts) (declared_before insts k) i) (k + 1) (drop (k + 1) insts)))) passes
-        ∙ ap (λ (d : Declared). first (group_3_from insts d (k + 1) (drop (k + 1) insts))) (sym (declared-more insts k i at) ∙ ap (declared_before insts) e);
+          first_at end insts k i h at
+          ∙ ap (λ (rules : List ℕ). at_place i.offset (least rules) (first (group_3_from insts (declare (says insts) (declared_before insts k) i) (k + 1) (drop (k + 1) insts)))) passes
+          ∙ ap (λ (d : Declared). first (group_3_from insts d (k + 1) (drop (k + 1) insts))) (sym (declared-more insts k i at) ∙ ap (declared_before insts) e);
       unbroken = unbroken_more insts k i h.unbroken at passes;
     }
 

@@ -130,9 +130,13 @@ StandFrom-more : (table more : Table) (ids others : List ℕ) (n : ℕ) (ks : Li
 StandFrom-more table more ids others n [] [] within same h = tt
 StandFrom-more table more ids others n [] (t ∷ ts) within same h = absurd h
 StandFrom-more table more ids others n (k ∷ ks) [] within same h = absurd h
-StandFrom-more table more ids others n (k ∷ ks) (t ∷ ts) within same h =
-    (h.0, (StandsFor-more table more ids others n t.0 k.1 t.1 (omega (arith, within)) same.0 h.1.0,
-    StandFrom-more table more ids others (suc n) ks ts (omega (arith, within)) same.1 h.1.1))
+StandFrom-more table more ids others n (k ∷ ks) (t ∷ ts) within same h = (
+  h.0,
+  (
+    StandsFor-more table more ids others n t.0 k.1 t.1 (omega (arith, within)) same.0 h.1.0,
+    StandFrom-more table more ids others (suc n) ks ts (omega (arith, within)) same.1 h.1.1,
+  ),
+)
 
 StandFrom-push : (table : Table) (ids : List ℕ) (n r : ℕ) (k : Kept) (m : Meaning) (ks : List (ℕ × Kept)) (ts : Table) →
     StandFrom table ids n ks ts → StandsFor table ids (n + length ts) r k m → StandFrom table ids n (ks ++ (r, k) ∷ []) (ts ++ (r, m) ∷ [])

@@ -53,7 +53,7 @@ ArrayIsKnown insts table i =
 -- what is kept of a type stands for what the type is; of an array's only where its length is known to be one word
 pub record KeepsType (insts : List Instruction) (table : Table) (i : Instruction) (kept : Kept) : Type 0 where
   pub stands : (opcode i ≡ op.TYPE_ARRAY → IsLength insts table (slice_index i.words 3)) →
-    (m : Meaning) × (entry (says insts) table i ≡ Some (slice_index i.words 1, m)) × ((whole : Table) (ids : List ℕ) (n : ℕ) → StandsFor whole ids n (slice_index i.words 1) kept m)
+      (m : Meaning) × (entry (says insts) table i ≡ Some (slice_index i.words 1, m)) × ((whole : Table) (ids : List ℕ) (n : ℕ) → StandsFor whole ids n (slice_index i.words 1) kept m)
 
 -- what is kept of a constant has its words and says whether it is Specialised
 pub record KeepsConstant (insts : List Instruction) (d : Declared) (i : Instruction) (c : Constant) : Type 0 where

@@ -8,8 +8,8 @@ ghost use Rattle.spv_types.specs.Entries.{IsReading, Reads};
 ghost use Rattle.spv_types.specs.Whole.{Finds, HasMeanings, Rises};
 
 use crate::keeping::{keep, refused};
-use crate::meanings::Meanings;
 use crate::lookup::Tables;
+use crate::meanings::Meanings;
 use crate::rules::{Standing, early_rule};
 use indexmap::IndexMap;
 use spv_base::Fault;

@@ -16,10 +16,10 @@ ghost use Rattle.spv_types.specs.Extracting.{AreComposed};
 ghost use Rattle.spv_types.specs.Declaring.{IsReady};
 ghost use Rattle.spv_types.specs.Computing.{computed_by, ids_by, IsShuffled, IsInserted, IsExtractedFrom, IsExtracted};
 
-use crate::operands::{number_of, operand_of};
 use crate::evaluation::evaluated;
 use crate::extraction::part_along;
 use crate::meanings::Meanings;
+use crate::operands::{number_of, operand_of};
 use spv_folding::{component, shuffle, with_component, zeros};
 use spv_ids::{word, words_from};
 use spv_module::View;

@@ -36,10 +36,7 @@ fn none_spec(kinds: &Kinds, ids: &[u32]) -> bool
 fn each_of(kinds: &Kinds, types: &[u32], ids: &[u32]) -> bool
     ensures { result ≡ list_all (λ pair. has_type kinds.now pair.0 pair.1) (zip types.now ids.now) }
 {
-    types
-        .iter()
-        .zip(ids)
-        .all(|(t, id)| kinds.has_type(*t, *id))
+    types.iter().zip(ids).all(|(t, id)| kinds.has_type(*t, *id))
 }
 
 /// Whether the constituents are as many as some types, and each is a constant of its type.
@@ -78,9 +75,11 @@ fn composite_fits(kinds: &Kinds, meanings: &Meanings, t: u32, ids: &[u32]) -> bo
     ensures { (d : Declared) → StandFor d.table d.specialised meanings.now.entries → (is_array kinds.now t ≡ true → IsLength kinds.now d.table (length_id kinds.now t)) → result ≡ rules.composite_fits kinds.now d t ids.now }
 {
     if kinds.is_vector(t) {
-        kinds.component_count(t) as usize == ids.len() && all_of_type(kinds, kinds.component(t), ids)
+        kinds.component_count(t) as usize == ids.len()
+            && all_of_type(kinds, kinds.component(t), ids)
     } else if kinds.is_array(t) {
-        has_length(kinds, meanings, kinds.length_id(t), ids.len()) && all_of_type(kinds, kinds.element(t), ids)
+        has_length(kinds, meanings, kinds.length_id(t), ids.len())
+            && all_of_type(kinds, kinds.element(t), ids)
     } else {
         kinds.is_struct(t) && are_of(kinds, kinds.members(t), ids)
     }
@@ -92,9 +91,8 @@ pub fn constant_fits(kinds: &Kinds, meanings: &Meanings, inst: &View) -> bool
 {
     let t = word(inst, 1);
     match inst.opcode() {
-        op::CONSTANT_TRUE | op::CONSTANT_FALSE | op::SPEC_CONSTANT_TRUE | op::SPEC_CONSTANT_FALSE => {
-            kinds.is_bool(t)
-        }
+        op::CONSTANT_TRUE | op::CONSTANT_FALSE | op::SPEC_CONSTANT_TRUE | op::SPEC_CONSTANT_FALSE =>
+            { kinds.is_bool(t) }
         op::CONSTANT | op::SPEC_CONSTANT => kinds.is_int(t) && words_from(inst, 3).len() == 1,
         op::CONSTANT_NULL | op::UNDEF => kinds.is_closed(t),
         op::SPEC_CONSTANT_COMPOSITE => composite_fits(kinds, meanings, t, words_from(inst, 3)),

@@ -16,10 +16,10 @@ ghost use Rattle.spv_types.specs.Declaring.{OnlyConstants, AreSound, IsReady, Ha
 
 use crate::composites::{composite, small};
 use crate::computed_constant::computed_constant;
-use crate::operands::is_specialised as is_specialised_id;
 use crate::extraction::small_zeros;
 use crate::meaning::{Constant, Value};
 use crate::meanings::{Meanings, type_facts};
+use crate::operands::is_specialised as is_specialised_id;
 use spv_base::NoMemory;
 use spv_decorations::Decorations;
 use spv_folding::of_word;

@@ -10,8 +10,8 @@ ghost use Rattle.spv_types.specs.Meanings.{StandFor};
 ghost use Rattle.spv_types.specs.Declaring.{AreSmall};
 ghost use Rattle.spv_types.specs.Suits as suits;
 
-use crate::operands::operand_of;
 use crate::meanings::Meanings;
+use crate::operands::operand_of;
 use spv_folding::{evaluate, zeros};
 use spv_typing::operations::Form;
 use spv_value::Operand;

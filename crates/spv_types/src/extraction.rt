@@ -9,9 +9,9 @@ ghost use Rattle.spv_meaning.specs.Types.{DataType, cells};
 ghost use Rattle.spv_types.specs.Meanings.{StandFor, constant_of_kept, second, words_numbered, is_small};
 ghost use Rattle.spv_types.specs.Extracting.{LeadsTo, IsPart, AreComposed, IsStep};
 
-use crate::operands::{constant_in, operand_in};
 use crate::meaning::{Constant, Value};
 use crate::meanings::Meanings;
+use crate::operands::{constant_in, operand_in};
 use spv_folding::{component, of_word, zeros};
 use spv_value::Operand;
 

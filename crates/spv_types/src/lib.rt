@@ -20,5 +20,5 @@ mod words;
 
 pub use building::tables;
 pub use facts::TypeFacts;
-pub use meaning::{Constant, Kept, Value};
 pub use lookup::Tables;
+pub use meaning::{Constant, Kept, Value};

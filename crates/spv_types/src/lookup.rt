@@ -25,4 +25,3 @@ impl<'a> Model for Tables<'a> {
 
     ghost invariant = { λ tables. HasMeanings tables.kinds tables.decorations tables.meanings.entries };
 }
-

@@ -99,11 +99,20 @@ fn declaration_rule(
     let begun = standing.begun;
     let tests = [
         (type_holds(kinds, standing.occurs, inst), rule::BAD_TYPE),
-        (constant_holds(kinds, meanings, begun, inst), rule::BAD_CONSTANT),
+        (
+            constant_holds(kinds, meanings, begun, inst),
+            rule::BAD_CONSTANT,
+        ),
         (spec_op_fits(kinds, inst), rule::BAD_SPEC_OP),
-        (decoration_holds(kinds, standing.repeats, inst), rule::BAD_DECORATION),
+        (
+            decoration_holds(kinds, standing.repeats, inst),
+            rule::BAD_DECORATION,
+        ),
         (layout_fits(meanings, begun, inst), rule::BAD_LAYOUT),
-        (global_fits(kinds, decorations, begun, inst), rule::BAD_GLOBAL),
+        (
+            global_fits(kinds, decorations, begun, inst),
+            rule::BAD_GLOBAL,
+        ),
     ];
     first_failing(&tests)
 }

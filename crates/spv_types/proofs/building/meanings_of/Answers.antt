@@ -38,7 +38,7 @@ returns-in_err-read c =
     (c.read.ensures c.instructions.k (subst (λ (insts : List Instruction). IsReading insts c.instructions.k i standing c.instructions.meanings.entries) (sym c.requires.kinds) reading)) in
     subst (λ r. Finds (first (group_3 insts)) (λ (meanings : IndexMap ℕ Kept Seed Global DefaultHasher). HasMeanings insts insts meanings.entries) r) (sym (fault.1 ∙ ap Err fault.2))
     (read-stops (λ (meanings : IndexMap ℕ Kept Seed Global DefaultHasher). HasMeanings insts insts meanings.entries) insts c.instructions.k i c.instructions.begun c.instructions.meanings.entries c.read.new.meanings.entries c.in_err-read.field-0.0
-      c.instructions.invariant c.at-inst.ensures (subst (Reads insts c.instructions.k i c.read.new.meanings.entries) c.in_err-read.was reads))
+    c.instructions.invariant c.at-inst.ensures (subst (Reads insts c.instructions.k i c.read.new.meanings.entries) c.in_err-read.was reads))
 
 pub instructions-preserved : goal.instructions-preserved
 instructions-preserved c =

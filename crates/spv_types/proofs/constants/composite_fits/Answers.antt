@@ -13,7 +13,7 @@ returns-then-has_length c = λ d h is.
     array_fits-length c.args.kinds.now d c.args.t c.args.ids.now c.has_length.result c.all_of_type-then-has_length.result
     (sym c.is_vector.ensures ∙ c.if-is_vector.false) array
     (c.has_length.ensures d h (subst (λ (n : ℕ). IsLength c.args.kinds.now d.table n) (sym c.length_id.ensures) (is array))
-      ∙ ap (λ (n : ℕ). has_length d n (length c.args.ids.now)) c.length_id.ensures)
+    ∙ ap (λ (n : ℕ). has_length d n (length c.args.ids.now)) c.length_id.ensures)
     c.if-has_length.true
     (c.all_of_type-then-has_length.ensures ∙ ap (λ (t : ℕ). list_all (has_type c.args.kinds.now t) c.args.ids.now) c.element.ensures)
 
@@ -23,5 +23,5 @@ returns-else-has_length c = λ d h is.
     array_fits-none c.args.kinds.now d c.args.t c.args.ids.now c.has_length.result
     (sym c.is_vector.ensures ∙ c.if-is_vector.false) array
     (c.has_length.ensures d h (subst (λ (n : ℕ). IsLength c.args.kinds.now d.table n) (sym c.length_id.ensures) (is array))
-      ∙ ap (λ (n : ℕ). has_length d n (length c.args.ids.now)) c.length_id.ensures)
+    ∙ ap (λ (n : ℕ). has_length d n (length c.args.ids.now)) c.length_id.ensures)
     c.if-has_length.false

@@ -12,15 +12,15 @@ pub returns-in-51 : goal.returns-in-51
 returns-in-51 c = λ d h is.
     composite-specialised c.args.kinds.now d (seen c.args.inst.now) c.composite_fits.result (sym c.opcode.ensures ∙ c.in-51.is)
     (c.composite_fits.ensures d h (subst (λ (t : ℕ). is_array c.args.kinds.now t ≡ true → IsLength c.args.kinds.now d.table (length_id c.args.kinds.now t)) (sym c.word-t.ensures) (is (ap (is_one_of composites) (sym c.opcode.ensures ∙ c.in-51.is))))
-      ∙ ap (λ (t : ℕ). composite_fits c.args.kinds.now d t c.words_from-in-51.result.now) c.word-t.ensures
-      ∙ ap (λ (ids : List ℕ). composite_fits c.args.kinds.now d (slice_index (seen c.args.inst.now).words 1) ids) c.words_from-in-51.ensures)
+    ∙ ap (λ (t : ℕ). composite_fits c.args.kinds.now d t c.words_from-in-51.result.now) c.word-t.ensures
+    ∙ ap (λ (ids : List ℕ). composite_fits c.args.kinds.now d (slice_index (seen c.args.inst.now).words 1) ids) c.words_from-in-51.ensures)
 
 pub returns-then-composite_fits : goal.returns-then-composite_fits
 returns-then-composite_fits c = λ d h is.
     composite-known c.args.kinds.now d (seen c.args.inst.now) c.composite_fits-in-44.result c.none_spec.result (sym c.opcode.ensures ∙ c.in-44.is)
     (c.composite_fits-in-44.ensures d h (subst (λ (t : ℕ). is_array c.args.kinds.now t ≡ true → IsLength c.args.kinds.now d.table (length_id c.args.kinds.now t)) (sym c.word-t.ensures) (is (ap (is_one_of composites) (sym c.opcode.ensures ∙ c.in-44.is))))
-      ∙ ap (λ (t : ℕ). composite_fits c.args.kinds.now d t c.words_from-in-44.result.now) c.word-t.ensures
-      ∙ ap (λ (ids : List ℕ). composite_fits c.args.kinds.now d (slice_index (seen c.args.inst.now).words 1) ids) c.words_from-in-44.ensures)
+    ∙ ap (λ (t : ℕ). composite_fits c.args.kinds.now d t c.words_from-in-44.result.now) c.word-t.ensures
+    ∙ ap (λ (ids : List ℕ). composite_fits c.args.kinds.now d (slice_index (seen c.args.inst.now).words 1) ids) c.words_from-in-44.ensures)
     c.if-composite_fits.true
     (c.none_spec.ensures ∙ ap (λ (ids : List ℕ). list_all (λ id. not (is_spec c.args.kinds.now id)) ids) c.words_from-then-composite_fits.ensures)
 
@@ -28,6 +28,6 @@ pub returns-else-composite_fits : goal.returns-else-composite_fits
 returns-else-composite_fits c = λ d h is.
     composite-other c.args.kinds.now d (seen c.args.inst.now) c.composite_fits-in-44.result (sym c.opcode.ensures ∙ c.in-44.is)
     (c.composite_fits-in-44.ensures d h (subst (λ (t : ℕ). is_array c.args.kinds.now t ≡ true → IsLength c.args.kinds.now d.table (length_id c.args.kinds.now t)) (sym c.word-t.ensures) (is (ap (is_one_of composites) (sym c.opcode.ensures ∙ c.in-44.is))))
-      ∙ ap (λ (t : ℕ). composite_fits c.args.kinds.now d t c.words_from-in-44.result.now) c.word-t.ensures
-      ∙ ap (λ (ids : List ℕ). composite_fits c.args.kinds.now d (slice_index (seen c.args.inst.now).words 1) ids) c.words_from-in-44.ensures)
+    ∙ ap (λ (t : ℕ). composite_fits c.args.kinds.now d t c.words_from-in-44.result.now) c.word-t.ensures
+    ∙ ap (λ (ids : List ℕ). composite_fits c.args.kinds.now d (slice_index (seen c.args.inst.now).words 1) ids) c.words_from-in-44.ensures)
     c.if-composite_fits.false

@@ -21,13 +21,14 @@ returns-in-Zeros c = λ table ids h.
 
 pub returns-in-Some-find_part : goal.returns-in-Some-find_part
 returns-in-Some-find_part c =
-    let found = c.in-Some-find_part.ensures in
-    (part-below c.requires.0 c.requires.1 c.args.meanings.now.entries c.args.number c.in-Some-find_part.part c.in-Some.constant.now c.in-Parts.parts c.requires.2
-      (sym c.constant_numbered.ensures ∙ ap option_copied c.in-Some.is) c.in-Parts.is (subst (λ (xs : List ℕ). Contains xs c.in-Some-find_part.part) c.deref.ensures.value found.among),
-    λ table ids h.
-      found-part table ids c.args.meanings.now.entries c.args.number c.args.k c.in-Some.constant.now c.in-Parts.parts _ h
-      (sym c.constant_numbered.ensures ∙ ap option_copied c.in-Some.is) c.in-Parts.is
-      (ap (λ (xs : List ℕ). slice_get (joined table xs) c.args.k) (sym c.deref.ensures.value) ∙ found.found table ids h))
+    let found = c.in-Some-find_part.ensures in (
+      part-below c.requires.0 c.requires.1 c.args.meanings.now.entries c.args.number c.in-Some-find_part.part c.in-Some.constant.now c.in-Parts.parts c.requires.2
+          (sym c.constant_numbered.ensures ∙ ap option_copied c.in-Some.is) c.in-Parts.is (subst (λ (xs : List ℕ). Contains xs c.in-Some-find_part.part) c.deref.ensures.value found.among),
+      λ table ids h.
+          found-part table ids c.args.meanings.now.entries c.args.number c.args.k c.in-Some.constant.now c.in-Parts.parts _ h
+          (sym c.constant_numbered.ensures ∙ ap option_copied c.in-Some.is) c.in-Parts.is
+          (ap (λ (xs : List ℕ). slice_get (joined table xs) c.args.k) (sym c.deref.ensures.value) ∙ found.found table ids h),
+    )
 
 pub returns-in-None : goal.returns-in-None
 returns-in-None c = λ table ids h.
