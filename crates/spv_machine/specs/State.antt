@@ -1,5 +1,5 @@
 -- The state of an invocation: where it stands, apart from its data.
-use Rattle.std.specs.Prelude.{ℕ, Bool, cond, ◌==◌, nat_eq, List, [], ◌∷◌, ◌++◌, map, length, replicate, slice_index, slice_set, Option, Some, None, is_some}
+use Rattle.std.specs.Prelude.{ℕ, Bool, cond, ◌==◌, nat_eq, List, [], ◌∷◌, map, length, replicate, slice_index, slice_set, Option, Some, None, is_some}
 use Rattle.std.specs.Map.{lookup}
 use Rattle.std.specs.Option.{unwrap_or}
 use Rattle.spv_opcodes.specs.declared.decoration.TheConstants as decoration
@@ -68,8 +68,10 @@ on_top change d = record d { frames = change (top d.frames) ∷ below d.frames }
 abbrev pub bind : ℕ → Value → Data → Data
 bind r v d = on_top (λ f. record f { values = (r, v) ∷ f.values }) d
 
+-- and so do several; of one id twice, the last value counts
 abbrev pub bind_all : List (ℕ × Value) → Data → Data
-bind_all entries d = on_top (λ f. record f { values = entries ++ f.values }) d
+bind_all [] d = d
+bind_all (entry ∷ entries) d = bind_all entries (bind entry.0 entry.1 d)
 
 -- the number of calls below the innermost one
 abbrev pub depth_of : Data → ℕ

@@ -1,6 +1,5 @@
 -- Reading from the first instruction to the last.
-use Rattle.std.proofs.Common.{◌≡◌, ℕ, zero, suc, ◌+◌, ◌<◌, ◌≤◌, Bool, true, false, ◌||◌, List, [], length, slice_get, Option, Some, None, Ok, Err, refl, sym, ap, subst, ◌∙◌, arith}
-use Rattle.std.specs.Prelude.{⊤}
+use Rattle.std.proofs.Common.{◌≡◌, ℕ, suc, ◌+◌, Bool, true, false, ◌||◌, List, [], length, slice_get, Option, Some, None, Ok, Err, refl, sym, ap, subst, ◌∙◌, arith}
 use Rattle.spv_base.specs.declared.fault.Fault.{Fault}
 use Rattle.spv_base.specs.declared.fault.Fault.TheVariants as faults
 use Rattle.spv_base.specs.declared.fault.Refusal.{Refusal}
@@ -14,7 +13,6 @@ use Rattle.spv_declarations.specs.Declarations.{Declared, declared_before}
 use Rattle.spv_declarations.specs.Sound.{AreInstructions, Unbroken}
 use Rattle.spv_declarations.proofs.Tables.{declared-more}
 use Rattle.spv_types.specs.declared.meaning.Kept.{Kept}
-use Rattle.spv_types.specs.declared.rules.Standing.{Standing}
 use Rattle.spv_types.specs.Entries.{AreKept, IsReading, Reads}
 use Rattle.spv_types.specs.Whole.{AreRead, Finds, HasMeanings, Rises}
 use Rattle.spv_types.proofs.Reading.{read-none, read-next, read-refused, read-all}

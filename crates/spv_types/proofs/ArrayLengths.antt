@@ -1,12 +1,11 @@
 -- The length of an array type that is declared is a constant of one word.
-use Rattle.std.proofs.Common.{◌≡◌, ℕ, List, Bool, true, false, ◌&&◌, ◌==◌, refl, sym, ap, subst, ◌∙◌, ◌≤◌, arith}
+use Rattle.std.proofs.Common.{◌≡◌, ℕ, List, true, false, ◌&&◌, refl, subst, arith}
 use Rattle.std.specs.List.{slice_index}
 use Rattle.std.proofs.lemmas.Bool.{and_parts}
 use Rattle.spv_opcodes.specs.declared.op.TheConstants as op
 use Rattle.spv_grammar.specs.Table.{row_of}
 use Rattle.spv_module.specs.Instruction.{Instruction}
-use Rattle.spv_ids.specs.Ids.{is_defined_before}
-use Rattle.spv_typing.specs.Kinds.{is_array, is_closed, is_constant, is_int, type_of, length_id, element}
+use Rattle.spv_typing.specs.Kinds.{is_array, is_closed, is_constant, is_int, type_of, length_id}
 use Rattle.spv_declarations.specs.Declarations.{declared_before}
 use Rattle.spv_declarations.specs.Sound.{AreInstructions, Unbroken, IsBefore, table_before}
 use Rattle.spv_declarations.proofs.Consequences.{sound_length}

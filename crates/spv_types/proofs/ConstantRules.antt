@@ -1,12 +1,12 @@
 -- Whether a constant fits its type, by what is kept of the length of an array.
-use Rattle.std.proofs.Common.{◌≡◌, ℕ, ◌≤◌, Bool, true, false, cond, not, ◌==◌, ◌&&◌, ◌||◌, nat_le, List, [], ◌∷◌, length, drop, refl, sym, ap, subst, ◌∙◌, arith}
+use Rattle.std.proofs.Common.{◌≡◌, ℕ, ◌≤◌, Bool, true, false, not, nat_le, List, length, drop, refl, sym, ◌∙◌, arith}
 use Rattle.std.specs.Prelude.{nat_eq}
 use Rattle.std.specs.List.{list_all, slice_index}
 use Rattle.std.proofs.lemmas.Bool.Decides.{nat_tests}
 use Rattle.spv_opcodes.specs.declared.op.TheConstants as op
 use Rattle.spv_module.specs.Instruction.{Instruction, opcode}
 use Rattle.spv_meaning.specs.Constants.{length_at}
-use Rattle.spv_typing.specs.Kinds.{is_one_of, is_vector, is_array, is_struct, is_spec, length_id, element, has_type}
+use Rattle.spv_typing.specs.Kinds.{is_one_of, is_vector, is_array, is_spec, length_id, element, has_type}
 use Rattle.spv_declarations.specs.Declarations.{Declared}
 use Rattle.spv_declarations.specs.Constants.{has_length, composite_fits, constant_fits}
 

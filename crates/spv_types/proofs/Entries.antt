@@ -1,6 +1,6 @@
 -- What is kept of one declaration more stands for it, and then all that is kept stands for all that is declared.
-use Rattle.std.proofs.Common.{◌≡◌, ℕ, zero, suc, ◌+◌, ◌<◌, ◌≤◌, Bool, true, false, cond, not, ◌==◌, ◌&&◌, ◌||◌, nat_eq, List, [], ◌∷◌, ◌++◌, length, drop, slice_get, Option, Some, None, Ok, Err, ◌⊎◌, inl, inr, refl, sym, ap, subst, ◌∙◌, arith}
-use Rattle.std.specs.List.{list_any, list_all, slice_index}
+use Rattle.std.proofs.Common.{◌≡◌, ℕ, zero, suc, ◌+◌, ◌<◌, Bool, true, false, cond, not, ◌==◌, ◌&&◌, ◌||◌, nat_eq, List, [], ◌∷◌, ◌++◌, length, drop, slice_get, Option, Some, None, Ok, Err, ◌⊎◌, inl, inr, refl, sym, ap, subst, ◌∙◌, arith}
+use Rattle.std.specs.List.{list_any, slice_index}
 use Rattle.std.specs.Map.{lookup}
 use Rattle.std.specs.Option.{option_map}
 use Rattle.std.proofs.lemmas.Bool.{eqb-true, eq-eqb, and_parts, or_cases, or_right}
@@ -12,21 +12,18 @@ use Rattle.spv_opcodes.specs.declared.storage_class.TheConstants as storage_clas
 use Rattle.spv_grammar.specs.declared.kind.Kind.TheVariants.{ResultId, Id}
 use Rattle.spv_grammar.specs.Table.{row_of, in_section}
 use Rattle.spv_module.specs.Code.{is_function}
-use Rattle.spv_module.specs.Instruction.{Instruction, IsInstruction, opcode, roles}
+use Rattle.spv_module.specs.Instruction.{Instruction, opcode, roles}
 use Rattle.spv_meaning.specs.Constants.{Table, Meaning, IsType, IsPointer, IsConstant, IsVariable, meaning, words_in, pointer_at, initial}
 use Rattle.spv_meaning.specs.Statements.{Statement}
 use Rattle.spv_meaning.specs.Types.{DataType, Void, cells}
-use Rattle.spv_value.specs.Eval.{AreBooleanWords}
 use Rattle.spv_ids.specs.Ids.{is_defined_before, is_unknown, is_declaration, used_ids}
-use Rattle.spv_typing.specs.declared.shapes.Shape.{Shape}
 use Rattle.spv_typing.specs.Kinds.{is_one_of, is_constant, is_closed, is_int, type_of, data_types, constants}
-use Rattle.spv_typing.specs.Operations.{shape}
 use Rattle.spv_typing.specs.Types.{type_fits}
 use Rattle.spv_declarations.specs.Declarations.{Declared, declared_before, declare, says, entry, is_specialised}
 use Rattle.spv_declarations.specs.Broken.{rules_at, depth_fits}
-use Rattle.spv_declarations.specs.Sound.{AreInstructions, Unbroken, IsBefore, table_before}
+use Rattle.spv_declarations.specs.Sound.{AreInstructions, IsBefore, table_before}
 use Rattle.spv_declarations.proofs.Consequences.{sound_length, sound_constant, sound_booleans, constant_only}
-use Rattle.spv_declarations.proofs.Declares.{AllOf, IsNew, one_of-holds, declares_new, declares_constant}
+use Rattle.spv_declarations.proofs.Declares.{IsNew, one_of-holds, declares_new, declares_constant}
 use Rattle.spv_declarations.proofs.Defining.{suits_meaning, entry-by, entry-gives}
 use Rattle.spv_declarations.proofs.Naming.{known_all, third-known}
 use Rattle.spv_declarations.proofs.Parts.{plain-parts}
@@ -38,10 +35,10 @@ use Rattle.spv_types.specs.declared.meaning.Kept.TheVariants as kept
 use Rattle.spv_types.specs.Declaring.{OnlyConstants, AreSound}
 use Rattle.spv_types.specs.Entries.{AreKept, KeepsOne, Declares, depth_holds}
 use Rattle.spv_types.specs.Extracting.{AreComposed, ArePartsOf, IsPart, HasNumbers, part_types}
-use Rattle.spv_types.specs.Meanings.{StandFor, StandsFor, StandFrom, constant_of_kept, second}
+use Rattle.spv_types.specs.Meanings.{StandsFor, StandFrom, constant_of_kept, second}
 use Rattle.spv_types.specs.Steps.{IsNext, IsLength, KeepsType, KeepsConstant, type_opcodes, constant_opcodes}
 use Rattle.spv_types.proofs.Reading.{unbroken_more}
-use Rattle.spv_types.proofs.Standing.{IsValue-more, SameFlags, SameFlags-same, SameFlags-new, StandFor-push, StandFor-none}
+use Rattle.spv_types.proofs.Standing.{IsValue-more, SameFlags-same, SameFlags-new, StandFor-push, StandFor-none}
 
 -- ---- types
 

@@ -1,9 +1,9 @@
 -- Whether a constant that is the length of an array is Known.
-use Rattle.std.proofs.Common.{◌≡◌, ℕ, Bool, true, false, not, List, [], ◌∷◌, Option, Some, None, refl, sym, ap, subst, ◌∙◌}
+use Rattle.std.proofs.Common.{◌≡◌, ℕ, not, List, Option, Some, None, ap, subst}
 use Rattle.std.specs.Prelude.{nat_eq}
 use Rattle.std.specs.Map.{lookup}
 use Rattle.spv_module.specs.Instruction.{Instruction}
-use Rattle.spv_meaning.specs.Constants.{Table, Meaning, IsConstant, meaning}
+use Rattle.spv_meaning.specs.Constants.{Table, IsConstant, meaning}
 use Rattle.spv_meaning.specs.Types.{DataType}
 use Rattle.spv_typing.specs.Kinds.{is_one_of}
 use Rattle.spv_types.specs.declared.meaning.Kept.{Kept}

@@ -21,8 +21,9 @@ pub mod Walking
 pub mod Leading
 pub mod Reaching
 pub mod ExtractLemmas
-pub mod Tests
+pub mod FirstFailing
 pub mod EarlyRules
 pub mod Entries
 pub mod OneMore
 pub mod AllRead
+pub mod Lookups

@@ -1,7 +1,7 @@
 -- One instruction more that is read breaks no rule and is kept, or the least rule that it breaks is told.
-use Rattle.std.proofs.Common.{◌≡◌, ℕ, zero, suc, ◌+◌, ◌<◌, ◌≤◌, Bool, true, false, cond, not, ◌==◌, ◌&&◌, ◌||◌, List, [], ◌∷◌, ◌++◌, length, slice_get, Option, Some, None, Ok, Err, ◌⊎◌, inl, inr, refl, sym, ap, subst, ◌∙◌, arith}
+use Rattle.std.proofs.Common.{◌≡◌, ℕ, Bool, true, false, cond, not, ◌==◌, ◌||◌, List, [], ◌∷◌, Option, Some, None, Ok, Err, ◌⊎◌, inl, inr, refl, sym, ap, subst, ◌∙◌}
 use Rattle.std.specs.Prelude.{Result, ⊤}
-use Rattle.std.specs.List.{list_any, list_all, slice_index}
+use Rattle.std.specs.List.{list_any, slice_index}
 use Rattle.std.proofs.lemmas.Bool.{eqb-true, and_parts, or_cases, or_right, not-true}
 use Rattle.spv_base.specs.declared.fault.Fault.{Fault}
 use Rattle.spv_base.specs.declared.fault.Fault.TheVariants as faults
@@ -12,23 +12,22 @@ use Rattle.spv_grammar.specs.declared.section.TheConstants as section
 use Rattle.spv_module.specs.Code.{is_line, row_section}
 use Rattle.spv_module.specs.First.{least}
 use Rattle.spv_module.specs.Instruction.{Instruction, IsInstruction, opcode, roles}
-use Rattle.spv_meaning.specs.Constants.{Table, Meaning}
+use Rattle.spv_meaning.specs.Constants.{Table}
 use Rattle.spv_meaning.specs.Statements.{Statement, is_silent_opcode, is_debug_opcode, is_line_opcode}
-use Rattle.spv_ids.specs.Ids.{is_defined_before, is_unknown, is_declaration, is_second, names_unknown, used_ids}
-use Rattle.spv_repeats.specs.Repeats.{occurs_before, repeats_before}
-use Rattle.spv_typing.specs.Kinds.{is_one_of, is_array}
+use Rattle.spv_ids.specs.Ids.{is_defined_before, is_unknown, names_unknown, used_ids}
+use Rattle.spv_repeats.specs.Repeats.{occurs_before}
+use Rattle.spv_typing.specs.Kinds.{is_one_of}
 use Rattle.spv_typing.specs.Types.{type_fits}
-use Rattle.spv_typing.specs.Operations.{spec_op_fits}
 use Rattle.spv_declarations.specs.Broken.{rules_at, depth_fits}
 use Rattle.spv_declarations.specs.Constants.{constant_fits}
 use Rattle.spv_declarations.specs.Declarations.{Declared, declared_before, says, entry, is_specialised}
-use Rattle.spv_declarations.specs.Sound.{AreInstructions, Unbroken, IsBefore, table_before}
+use Rattle.spv_declarations.specs.Sound.{IsBefore, table_before}
 use Rattle.spv_declarations.proofs.Naming.{known_all, type-known}
 use Rattle.spv_declarations.proofs.Parts.{first_typed, row_test, typed-words}
 use Rattle.spv_declarations.proofs.Declares.{AllOf, one_of-holds}
 use Rattle.spv_types.specs.declared.meaning.Kept.{Kept}
 use Rattle.spv_types.specs.declared.rules.Standing.{Standing}
-use Rattle.spv_types.specs.Entries.{AreKept, IsReading, Reads, Declares, depth_holds}
+use Rattle.spv_types.specs.Entries.{IsReading, Reads, Declares, depth_holds}
 use Rattle.spv_types.specs.Progress.{AreKnown, IsAsked, first_failing, early_tests}
 use Rattle.spv_types.specs.Steps.{IsNext, ArrayIsKnown, composites}
 use Rattle.spv_types.proofs.ArrayLengths.{array-length}

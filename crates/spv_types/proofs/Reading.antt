@@ -1,15 +1,14 @@
 -- The first broken rule, one instruction after the other.
-use Rattle.std.proofs.Common.{◌≡◌, ℕ, zero, suc, ◌+◌, ◌<◌, ◌≤◌, ◌⊎◌, inl, inr, List, [], ◌∷◌, ◌++◌, length, take, drop, slice_get, Option, Some, None, refl, sym, ap, subst, ◌∙◌, arith, add-one}
+use Rattle.std.proofs.Common.{◌≡◌, ℕ, suc, ◌+◌, ◌<◌, ◌≤◌, ◌⊎◌, inl, inr, List, [], ◌∷◌, length, drop, slice_get, Option, Some, None, refl, sym, ap, subst, ◌∙◌, arith}
 use Rattle.std.proofs.Math.Seq.{drop-cons}
 use Rattle.std.proofs.Math.ListN.{drop_of_length-le}
 use Rattle.std.proofs.lemmas.Option.{get_or_from_slice_get, slice_get_within}
-use Rattle.spv_base.specs.declared.fault.Refusal.{Refusal}
 use Rattle.spv_module.specs.First.{here, first, least, at_place}
 use Rattle.spv_module.specs.Instruction.{Instruction}
 use Rattle.spv_module.specs.Layout.{RisesTo}
 use Rattle.spv_module.proofs.FirstLemmas.{Later, Later-append, Later-here, Later-weaken, first-here-later}
 use Rattle.spv_declarations.specs.Broken.{group_3, group_3_from, rules_at}
-use Rattle.spv_declarations.specs.Declarations.{Declared, declared_before, nothing_declared, declare, says}
+use Rattle.spv_declarations.specs.Declarations.{Declared, declared_before, declare, says}
 use Rattle.spv_declarations.specs.Sound.{Unbroken}
 use Rattle.spv_declarations.proofs.Tables.{declared-more}
 use Rattle.spv_types.specs.Progress.{IsRead}

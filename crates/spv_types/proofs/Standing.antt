@@ -1,20 +1,18 @@
 -- What is kept of the meanings of ids stands for the table, entry by entry: what look-ups find, and one entry more.
-use Rattle.std.proofs.Common.{◌≡◌, ℕ, zero, suc, ◌+◌, ◌<◌, ◌≤◌, Bool, true, false, cond, nat_eq, List, [], ◌∷◌, ◌++◌, length, slice_get, Option, Some, None, ◌⊎◌, refl, sym, ap, subst, ◌∙◌, arith, ◌==◌, ◌||◌}
-use Rattle.std.specs.List.{list_any}
+use Rattle.std.proofs.Common.{◌≡◌, ℕ, zero, suc, ◌+◌, ◌<◌, ◌≤◌, Bool, true, false, cond, nat_eq, List, [], ◌∷◌, ◌++◌, length, slice_get, Option, Some, None, refl, sym, subst, ◌∙◌, arith}
 use Rattle.std.specs.Map.{lookup}
 use Rattle.std.proofs.lemmas.Bool.Decides.{nat_tests}
 use Rattle.std.proofs.lemmas.Option.{none-some}
 use Rattle.indexmap.proofs.CallerLemmas.{insert_entry-new}
-use Rattle.spv_meaning.specs.Constants.{Table, Meaning, IsType, IsPointer, IsConstant, IsVariable, meaning, type_in, type_at, pointer_in, pointer_at}
-use Rattle.spv_meaning.specs.Types.{DataType, Void}
+use Rattle.spv_meaning.specs.Constants.{Table, Meaning, IsType, IsPointer, IsConstant, IsVariable, type_in, type_at, pointer_in, pointer_at}
+use Rattle.spv_meaning.specs.Types.{DataType}
 use Rattle.spv_typing.specs.Kinds.{is_one_of}
 use Rattle.spv_types.specs.declared.meaning.Kept.{Kept}
 use Rattle.spv_types.specs.declared.meaning.Kept.TheVariants as kept
 use Rattle.spv_types.specs.declared.meaning.Value.{Value}
 use Rattle.spv_types.specs.declared.meaning.Value.TheVariants.{Small, Zeros, Parts}
-use Rattle.spv_types.specs.declared.facts.TypeFacts.{TypeFacts}
 use Rattle.spv_types.specs.Facts.{facts}
-use Rattle.spv_types.specs.Meanings.{type_of_kept, pointee_of_kept, IsValue, AllBelow, StandsFor, StandFrom, StandFor, words_numbered, words_in_entry, joined}
+use Rattle.spv_types.specs.Meanings.{type_of_kept, pointee_of_kept, IsValue, AllBelow, StandsFor, StandFrom, StandFor, words_numbered, joined}
 
 -- ---- look-ups
 

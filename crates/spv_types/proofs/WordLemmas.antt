@@ -17,7 +17,7 @@ use Rattle.spv_types.specs.declared.meaning.Kept.TheVariants as kept
 use Rattle.spv_types.specs.Facts.{in_64_bits}
 use Rattle.spv_meaning.specs.Types.{DataType}
 use Rattle.spv_types.specs.declared.meaning.Value.TheVariants.{Small, Zeros, Parts}
-use Rattle.spv_types.specs.Meanings.{IsValue, AllBelow, StandsFor, StandFor, words_numbered, words_in_entry, joined, second, constant_of_kept, cells_of_constant}
+use Rattle.spv_types.specs.Meanings.{IsValue, AllBelow, StandFor, words_numbered, words_in_entry, joined, second, constant_of_kept, cells_of_constant}
 use Rattle.spv_types.proofs.Room.{in_64_bits-fits, in_64_bits-is}
 use Rattle.spv_types.proofs.Standing.{AreAlikeEntries, StandFrom-at}
 

@@ -1,6 +1,6 @@
 -- What is kept of a type.
-use Rattle.std.specs.Prelude.{◌≡◌, ℕ, min, ◌^◌, ◌≤◌, Bool, true, false, cond, nat_lt, Option, Some, None}
-use Rattle.spv_meaning.specs.Types.{DataType, Void, Boolean, Integer, Vector, Array, RuntimeArray, Struct, cells}
+use Rattle.std.specs.Prelude.{ℕ, min, ◌^◌, Bool, true, false, cond, nat_lt, Option, Some, None}
+use Rattle.spv_meaning.specs.Types.{DataType, Void, RuntimeArray, cells}
 use Rattle.spv_types.specs.declared.facts.TypeFacts.{TypeFacts}
 use Rattle.spv_declarations.specs.Depth.{depth, is_laid_out}
 

@@ -10,3 +10,4 @@ pub mod Extracting
 pub mod Progress
 pub mod Entries
 pub mod Whole
+pub mod Lookup

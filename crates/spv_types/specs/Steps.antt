@@ -1,5 +1,5 @@
 -- One declaration more: what is known of it, and what is kept of it.
-use Rattle.std.specs.Prelude.{◌≡◌, ℕ, Bool, true, false, ◌==◌, List, [], ◌∷◌, length, slice_get, slice_index, Option, Some, None}
+use Rattle.std.specs.Prelude.{◌≡◌, ℕ, true, false, ◌==◌, List, [], ◌∷◌, length, slice_get, slice_index, Some}
 use Rattle.spv_opcodes.specs.declared.op.TheConstants as op
 use Rattle.spv_module.specs.Instruction.{Instruction, opcode}
 use Rattle.spv_meaning.specs.Constants.{Table, Meaning, IsConstant, meaning}

@@ -5,8 +5,6 @@ use Rattle.spv_base.specs.declared.fault.Fault.TheVariants as faults
 use Rattle.spv_base.specs.declared.fault.Refusal.{Refusal}
 use Rattle.spv_module.specs.Instruction.{Instruction}
 use Rattle.spv_module.specs.Layout.{RisesTo}
-use Rattle.spv_repeats.specs.Repeats.{occurs_before, repeats_before}
-use Rattle.spv_repeats.specs.Marks.{AreMarks}
 use Rattle.spv_declarations.specs.Declarations.{declared_before}
 use Rattle.spv_declarations.specs.Sound.{AreInstructions, Unbroken}
 use Rattle.spv_types.specs.declared.meaning.Kept.{Kept}

@@ -1,17 +1,17 @@
 // The part of a constant that literals lead to.
-ghost use Rattle.std.specs.Prelude.{◌≡◌, ℕ, ◌≤◌, true, List, replicate, slice_get};
+ghost use Rattle.std.specs.Prelude.{◌≡◌, ℕ, ◌≤◌, true, List, replicate};
 ghost use Rattle.std.specs.Option.{option_copied};
 ghost use Rattle.spv_value.specs.Words.{words_of};
 ghost use Rattle.spv_meaning.specs.Computations.{extracted, whole_part};
 ghost use Rattle.spv_meaning.specs.Constants.{Table};
 ghost use Rattle.spv_meaning.specs.Parts.{packed_part};
 ghost use Rattle.spv_meaning.specs.Types.{DataType, cells};
-ghost use Rattle.spv_types.specs.Meanings.{StandFor, constant_of_kept, second, words_numbered, is_small};
+ghost use Rattle.spv_types.specs.Meanings.{StandFor, words_numbered, is_small};
 ghost use Rattle.spv_types.specs.Extracting.{LeadsTo, IsPart, AreComposed, IsStep};
 
 use crate::meaning::{Constant, Value};
 use crate::meanings::Meanings;
-use crate::operands::{constant_in, operand_in};
+use crate::operands::{constant_numbered, operand_in};
 use spv_folding::{component, of_word, zeros};
 use spv_value::Operand;
 
@@ -20,16 +20,6 @@ pub fn small_zeros(count: u32) -> Operand
     ensures { count ≤ 4 → words_of result ≡ replicate count 0 }
 {
     zeros(count.min(4) as u8)
-}
-
-/// The constant that is the meaning of this number.
-fn constant_numbered(meanings: &Meanings, number: usize) -> Option<&Constant>
-    ensures { option_copied result ≡ constant_of_kept (second (slice_get meanings.now.entries number)) }
-{
-    match meanings.get_index(number) {
-        Some((_, kept)) => constant_in(Some(kept)),
-        None => None,
-    }
 }
 
 /// One literal into a constant: the number of a part, or the result of so many words.

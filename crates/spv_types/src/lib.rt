@@ -16,9 +16,11 @@ pub mod meaning;
 mod meanings;
 mod operands;
 mod rules;
+#[cfg(test)]
+mod tests;
 mod words;
 
 pub use building::tables;
 pub use facts::TypeFacts;
 pub use lookup::Tables;
-pub use meaning::{Constant, Kept, Value};
+pub use meaning::{ConstKind, Constant, Kept, Value};

@@ -22,6 +22,17 @@ pub struct Constant {
     pub value: Value,
 }
 
+/// Whether an id is a constant, and whether a specialisation may change it.
+#[derive(Clone, Copy, Debug, PartialEq, Eq)]
+pub enum ConstKind {
+    /// No specialisation changes its words.
+    Known,
+    /// A specialisation may change its words.
+    Specialised,
+    /// The id is no constant.
+    NotConstant,
+}
+
 /// What is kept of an id that is defined outside functions.
 #[derive(Debug, Drop)]
 pub enum Kept {

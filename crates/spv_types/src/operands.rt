@@ -1,11 +1,11 @@
 // Constants by their ids.
-ghost use Rattle.std.specs.Prelude.{◌≡◌, ℕ, ◌<◌, true, List, [], None, Some, IfSome, IfNone, length, nat_eq};
+ghost use Rattle.std.specs.Prelude.{◌≡◌, ℕ, ◌<◌, true, List, [], None, Some, IfSome, IfNone, length, nat_eq, slice_get};
 ghost use Rattle.std.specs.Map.{lookup};
 ghost use Rattle.std.specs.Option.{option_copied};
 ghost use Rattle.spv_value.specs.Words.{words_of};
 ghost use Rattle.spv_meaning.specs.Constants.{Table, meaning, words_at, typed_at};
 ghost use Rattle.spv_types.specs.Facts.{in_64_bits};
-ghost use Rattle.spv_types.specs.Meanings.{StandFor, constant_of_kept, cells_of_constant, is_small};
+ghost use Rattle.spv_types.specs.Meanings.{StandFor, constant_of_kept, cells_of_constant, is_small, second};
 ghost use Rattle.spv_types.specs.Declaring.{flag_of, flag_at, IsNumber, IsOperandOf};
 
 use crate::meaning::{Constant, Kept, Value};
@@ -13,6 +13,7 @@ use crate::meanings::Meanings;
 use spv_folding::zeros;
 use spv_value::Operand;
 
+/// The constant that is kept.
 pub fn constant_in(kept: Option<&Kept>) -> Option<&Constant>
     ensures { option_copied result ≡ constant_of_kept (option_copied kept.entry) }
 {
@@ -27,6 +28,16 @@ pub fn constant_of(meanings: &Meanings, id: u32) -> Option<&Constant>
     ensures { option_copied result ≡ constant_of_kept (lookup (nat_eq id) meanings.now.entries) }
 {
     constant_in(meanings.get(&id))
+}
+
+/// The constant that is the meaning of this number.
+pub fn constant_numbered(meanings: &Meanings, number: usize) -> Option<&Constant>
+    ensures { option_copied result ≡ constant_of_kept (second (slice_get meanings.now.entries number)) }
+{
+    match meanings.get_index(number) {
+        Some((_, kept)) => constant_in(Some(kept)),
+        None => None,
+    }
 }
 
 fn flag_in(constant: Option<&Constant>) -> bool
@@ -45,7 +56,8 @@ pub fn is_specialised(meanings: &Meanings, id: u32) -> bool
     flag_in(constant_of(meanings, id))
 }
 
-fn cells_in(constant: Option<&Constant>) -> Option<u64>
+/// How many words the constant has, and 0 where there is none. None where that passes 64 bits.
+pub fn cells_in(constant: Option<&Constant>) -> Option<u64>
     ensures { result ≡ cells_of_constant (option_copied constant.entry) }
 {
     match constant {

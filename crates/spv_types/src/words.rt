@@ -1,51 +1,23 @@
 // The words of constants, one by one.
 ghost use Rattle.std.specs.Prelude.{◌≡◌, ℕ, ◌<◌, List, None, Some, IfSome, IfNone, length, replicate, slice_get, Contains};
 ghost use Rattle.spv_value.specs.Words.{words_of};
-ghost use Rattle.std.specs.Option.{option_copied};
-ghost use Rattle.spv_meaning.specs.Constants.{Table};
+ghost use Rattle.spv_meaning.specs.Constants.{Table, words_at};
 ghost use Rattle.spv_types.specs.Facts.{in_64_bits};
 ghost use Rattle.spv_types.specs.Search.{StepsTo};
-ghost use Rattle.spv_types.specs.Meanings.{StandFor, Stand, words_numbered, joined, second, constant_of_kept, cells_of_constant};
+ghost use Rattle.spv_types.specs.Meanings.{StandFor, Stand, words_numbered, joined};
 
-use crate::meaning::{Constant, Kept, Value};
+use crate::meaning::Value;
 use crate::meanings::Meanings;
+use crate::operands::{cells_in, constant_numbered, number_of};
 use spv_folding::component;
 use spv_value::Operand;
-
-fn constant_in(kept: Option<&Kept>) -> Option<&Constant>
-    ensures { option_copied result ≡ constant_of_kept (option_copied kept.entry) }
-{
-    match kept {
-        Some(Kept::Constant(constant)) => Some(constant),
-        _ => None,
-    }
-}
-
-/// The constant that is the meaning of this number.
-fn constant_numbered(meanings: &Meanings, number: u32) -> Option<&Constant>
-    ensures { option_copied result ≡ constant_of_kept (second (slice_get meanings.now.entries number)) }
-{
-    match meanings.get_index(number as usize) {
-        Some((_, kept)) => constant_in(Some(kept)),
-        None => None,
-    }
-}
-
-fn cells_in(constant: Option<&Constant>) -> Option<u64>
-    ensures { result ≡ cells_of_constant (option_copied constant.entry) }
-{
-    match constant {
-        Some(constant) => constant.cells,
-        None => Some(0),
-    }
-}
 
 /// How many words the constant of this number has. None where that passes 64 bits.
 #[tactic(auto, using(crate::proofs::WordLemmas::cells_kept))]
 fn cells_numbered(meanings: &Meanings, number: u32) -> Option<u64>
     ensures { (table : Table) (ids : List ℕ) → StandFor table ids meanings.now.entries → result ≡ in_64_bits (length (words_numbered table number)) }
 {
-    cells_in(constant_numbered(meanings, number))
+    cells_in(constant_numbered(meanings, number as usize))
 }
 
 /// The part in which a word of parts stands that lie one after the other, and the number of the word in it.
@@ -96,7 +68,7 @@ fn zero_word(cells: Option<u64>, k: u64) -> Option<u32>
 }
 
 /// Where the search for the k-th word of the constant of this number comes to.
-fn descend(meanings: &Meanings, number: u32, k: u64) -> Step
+fn descend(meanings: &Meanings, number: usize, k: u64) -> Step
     requires { Stand meanings.now.entries }
     ensures { StepsTo meanings.now.entries number k result }
 {
@@ -114,7 +86,7 @@ fn descend(meanings: &Meanings, number: u32, k: u64) -> Step
 }
 
 /// The k-th word of the constant of this number.
-pub fn word_numbered(meanings: &Meanings, number: u32, k: u64) -> Option<u32>
+fn word_numbered(meanings: &Meanings, number: usize, k: u64) -> Option<u32>
     requires { Stand meanings.now.entries }
     ensures { (table : Table) (ids : List ℕ) → StandFor table ids meanings.now.entries → result ≡ slice_get (words_numbered table number) k }
 {
@@ -124,9 +96,20 @@ pub fn word_numbered(meanings: &Meanings, number: u32, k: u64) -> Option<u32>
         match descend(meanings, number, k) {
             Step::At(word) => return word,
             Step::In(part, rest) => {
-                number = part;
+                number = part as usize;
                 k = rest;
             }
         }
+    }
+}
+
+/// The k-th word of the constant that the id is.
+pub fn word_at(meanings: &Meanings, id: u32, k: u32) -> Option<u32>
+    requires { Stand meanings.now.entries }
+    ensures { (table : Table) (ids : List ℕ) → StandFor table ids meanings.now.entries → result ≡ slice_get (words_at table id) k }
+{
+    match number_of(meanings, id) {
+        Some(number) => word_numbered(meanings, number, u64::from(k)),
+        None => None,
     }
 }

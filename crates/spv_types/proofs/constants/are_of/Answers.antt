@@ -1,4 +1,4 @@
-use Rattle.std.proofs.Common.{rules, sym, ◌∙◌, ◌≡◌, false, nat_eq, length, arith}
+use Rattle.std.proofs.Common.{sym, ◌∙◌, ◌≡◌, false, nat_eq, length, arith}
 use Rattle.std.proofs.lemmas.Bool.Decides.{nat_tests}
 use Rattle.spv_types.proofs.Constituents.{are_of-zip, are_of-count}
 use Rattle.spv_types.proofs.constants.are_of.Goals as goal

@@ -1,5 +1,5 @@
-use Rattle.std.proofs.Common.{rules, ◌≡◌, sym, ap, subst, ◌∙◌}
-use Rattle.std.specs.Prelude.{length, true, ℕ}
+use Rattle.std.proofs.Common.{sym, ap, subst, ◌∙◌}
+use Rattle.std.specs.Prelude.{length, ℕ}
 use Rattle.std.specs.List.{list_all}
 use Rattle.spv_typing.specs.Kinds.{has_type}
 use Rattle.spv_declarations.specs.Constants.{has_length}

@@ -1,4 +1,4 @@
-use Rattle.std.proofs.Common.{rules, ◌≡◌, sym, ap, ◌∙◌}
+use Rattle.std.proofs.Common.{◌∙◌}
 use Rattle.spv_types.proofs.KnownLengths.{length_known}
 use Rattle.spv_types.proofs.ConstantRules.{has_length-known, has_length-other}
 use Rattle.spv_types.proofs.constants.has_length.Goals as goal

@@ -1,4 +1,4 @@
-use Rattle.std.proofs.Common.{ℕ, sym, ◌∙◌, subst, Some, ◌*◌, ◌<◌, ◌^◌}
+use Rattle.std.proofs.Common.{ℕ, sym, ◌∙◌, subst, ◌*◌, ◌<◌, ◌^◌}
 use Rattle.std.specs.Option.{SomeIff}
 use Rattle.spv_types.proofs.Room.{in_64_bits-product}
 use Rattle.spv_types.proofs.facts.times.Goals as goal

@@ -1,4 +1,4 @@
-use Rattle.std.proofs.Common.{ℕ, Option, sym, ap, subst, ◌∙◌}
+use Rattle.std.proofs.Common.{ℕ, Option, subst}
 use Rattle.spv_module.specs.View.{seen}
 use Rattle.spv_declarations.specs.Declarations.{declared_before}
 use Rattle.spv_types.specs.declared.meaning.Kept.{Kept}

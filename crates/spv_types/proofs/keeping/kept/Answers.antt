@@ -1,4 +1,4 @@
-use Rattle.std.proofs.Common.{rules, ℕ, Bool, List, true, false, ◌≡◌, ◌==◌, ◌&&◌, not, sym, ap, subst, ◌∙◌}
+use Rattle.std.proofs.Common.{ℕ, ◌==◌, not, sym, ap, subst, ◌∙◌}
 use Rattle.std.specs.List.{slice_index}
 use Rattle.std.proofs.lemmas.Bool.{eqb-true, and_parts, not-true}
 use Rattle.spv_opcodes.specs.declared.op.TheConstants as op

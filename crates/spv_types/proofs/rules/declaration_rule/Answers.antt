@@ -3,7 +3,7 @@ use Rattle.spv_module.specs.View.{seen}
 use Rattle.spv_typing.specs.Types.{type_fits}
 use Rattle.spv_decorations.specs.Targets.{decoration_fits}
 use Rattle.spv_decorations.specs.Globals.{global_fits}
-use Rattle.spv_types.proofs.Tests.{failing-same}
+use Rattle.spv_types.proofs.FirstFailing.{failing-same}
 use Rattle.spv_types.proofs.rules.declaration_rule.Goals as goal
 
 pub returns : goal.returns

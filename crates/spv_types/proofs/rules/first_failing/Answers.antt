@@ -1,5 +1,5 @@
 use Rattle.std.proofs.Common.{refl}
-use Rattle.spv_types.proofs.Tests.{failing-found, failing-next, failing-none}
+use Rattle.spv_types.proofs.FirstFailing.{failing-found, failing-next, failing-none}
 use Rattle.spv_types.proofs.rules.first_failing.Goals as goal
 
 pub tests-init : goal.tests-init

@@ -1,4 +1,4 @@
-use Rattle.spv_types.proofs.Tests.{ArePassed}
+use Rattle.spv_types.proofs.FirstFailing.{ArePassed}
 use Rattle.spv_types.proofs.rules.first_failing.Given as goal
 
 abbrev pub invariant-tests : goal.invariant-tests

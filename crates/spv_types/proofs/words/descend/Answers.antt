@@ -1,4 +1,4 @@
-use Rattle.std.proofs.Common.{rules, ℕ, List, Option, Some, None, Contains, sym, ap, subst, ◌∙◌, refl, ◌≡◌}
+use Rattle.std.proofs.Common.{ℕ, List, None, Contains, sym, ap, subst, ◌∙◌}
 use Rattle.std.specs.Option.{option_copied}
 use Rattle.std.specs.List.{slice_get}
 use Rattle.spv_types.specs.Meanings.{joined}

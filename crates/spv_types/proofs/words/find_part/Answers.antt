@@ -1,4 +1,4 @@
-use Rattle.std.proofs.Common.{rules, ℕ, Option, sym, subst, ◌∙◌, refl, arith, ◌<◌, ◌≤◌}
+use Rattle.std.proofs.Common.{ℕ, Option, sym, subst, ◌∙◌, refl, arith, ◌<◌}
 use Rattle.std.specs.Option.{IfSome}
 use Rattle.spv_types.proofs.WordLemmas.{part-here, part-later, part-none}
 use Rattle.spv_types.proofs.words.find_part.Goals as goal

@@ -1,0 +1,36 @@
+#!/usr/bin/env bash
+# Strips the debug instructions of modules with 50,000 and 100,000 constants, array types, decorations or
+# members, on ids that follow each other and on ids that are 32 apart, and prints the processor seconds and
+# the peak memory that each takes, beside those of `true`, which is what starting a program costs. It fails
+# where a module is refused, or where stripping changes it.
+#
+# Needs python3. It is no part of the merge gate.
+
+set -eu
+
+here=$(dirname -- "$(readlink -f -- "${BASH_SOURCE[0]}")")
+root=$(dirname -- "$here")
+shader=$root/examples/doubles_a_buffer.spv
+program=$root/crates/spirv_opt/out/spirv_opt
+
+work=$(mktemp -d)
+trap 'rm -rf -- "$work"' EXIT
+
+# Builds the program where it is missing or stale. The shader has one debug instruction more than the modules.
+"$root/spirv-opt" --strip-debug "$shader" -o "$work/shader.spv"
+
+measure() {
+    python3 -I -S "$here/measure.py" "$@"
+}
+
+measure true true
+for kind in constants arrays decorations members; do
+    for spacing in 1 32; do
+        for count in 50000 100000; do
+            python3 "$here/declarations.py" "$work/shader.spv" "$kind" "$count" "$spacing" "$work/in.spv"
+            printf '%-12s %7d, ids %2d apart: ' "$kind" "$count" "$spacing"
+            measure '' "$program" --strip-debug "$work/in.spv" -o "$work/out.spv"
+            cmp -- "$work/in.spv" "$work/out.spv"
+        done
+    done
+done

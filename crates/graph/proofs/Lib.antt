@@ -1,0 +1,10 @@
+pub mod Least
+pub mod Elements
+pub mod Marks
+pub mod Walks
+pub mod ReachedPlaces
+pub mod Predecessors
+pub mod Sifting
+pub mod Edges
+pub mod Repetition
+pub mod Choices

@@ -1,0 +1,6 @@
+pub mod Blocks
+pub mod Cutting
+pub mod Edges
+pub mod Laws
+pub mod Places
+pub mod Seen

@@ -1,0 +1,5 @@
+pub mod Flow
+pub mod Tops
+pub mod Filling
+pub mod Steps
+pub mod Cases

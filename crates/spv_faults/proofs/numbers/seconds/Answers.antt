@@ -1,0 +1,7 @@
+use Rattle.std.proofs.Common.{[]}
+use Rattle.spv_blocks.proofs.PlaceSteps.{seconds-more}
+use Rattle.spv_faults.proofs.numbers.seconds.Goals as goal
+
+pub pairs-preserved : goal.pairs-preserved
+pairs-preserved c =
+    seconds-more c.args.pairs.now c.pairs.pair-index [] c.pairs.numbers.items c.push.new.self.items c.pairs-test.true c.pairs.invariant c.in_ok-push.ensures.items

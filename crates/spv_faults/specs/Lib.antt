@@ -1,0 +1,5 @@
+pub mod Once
+pub mod Parts
+pub mod Ends
+pub mod Opens
+pub mod Listed

@@ -1,0 +1,12 @@
+pub mod Equations
+pub mod Depths
+pub mod Made
+pub mod Gathering
+pub mod Phis
+pub mod Fronts
+pub mod Cases
+pub mod Listed
+pub mod Copies
+pub mod Sequences
+pub mod Formed
+pub mod Samples

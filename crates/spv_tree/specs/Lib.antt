@@ -1,0 +1,9 @@
+pub mod Tree
+pub mod Depth
+pub mod Control
+pub mod Branches
+pub mod Phi
+pub mod Fronts
+pub mod Sound
+pub mod Lines
+pub mod Facts

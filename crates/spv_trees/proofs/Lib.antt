@@ -1,0 +1,13 @@
+pub mod Walks
+pub mod Following
+pub mod Copying
+pub mod Parts
+pub mod Agreement
+pub mod Programs
+pub mod Bounds
+pub mod Members
+pub mod Spelling
+pub mod Ends
+pub mod Closing
+pub mod Listed
+pub mod Example

@@ -1,0 +1,13 @@
+pub mod Walk
+pub mod Contexts
+pub mod Faults
+pub mod Phis
+pub mod Rules
+pub mod Numbering
+pub mod Laws
+pub mod Facts
+pub mod Tables
+pub mod Walked
+pub mod Rows
+pub mod Letter
+pub mod Found

@@ -1,0 +1,19 @@
+//! The walk through the structured control flow of a function: which blocks are walked, and in which context each of
+//! them stands.
+#![tactic(auto)]
+
+mod falls;
+mod going;
+mod refusing;
+pub mod rows;
+mod seen;
+pub mod walked;
+pub mod walking;
+
+pub use rows::{Level, Rows};
+pub use spv_base::NoMemory;
+pub use walked::Walked;
+pub use walking::walk;
+
+#[cfg(test)]
+mod tests;
