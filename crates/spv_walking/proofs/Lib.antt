@@ -1,6 +1,10 @@
 pub mod KeptContexts
 pub mod CaseFalls
 pub mod Refused
+pub mod Looked
+pub mod LoopEnds
+pub mod LostBlocks
+pub mod GreatestDepth
 pub mod Counts
 pub mod Coming
 pub mod Targets

@@ -1,20 +1,14 @@
 -- The least of the rules that are broken at the targets of a block, target by target.
-use Rattle.std.proofs.Common.{◌≡◌, ℕ, ◌+◌, ◌<◌, ◌==◌, ◌||◌, Bool, true, false, cond, not, ◌&&◌, min, List, [], ◌∷◌, ◌++◌, length, get_or, Option, Some, None, refl, sym, ap, subst, ◌∙◌, arith, append_assoc}
+use Rattle.std.proofs.Common.{◌≡◌, ℕ, Bool, true, false, not, ◌&&◌, min, List, [], ◌∷◌, ◌++◌, Option, Some, None, refl, sym, ap, ◌∙◌, arith, append_assoc}
 use Rattle.std.proofs.lemmas.Bool.Decides.{nat_tests}
 use Rattle.std.proofs.lemmas.List.{append-nil}
-use Rattle.std.specs.Option.{option_map, unwrap_or}
-use Rattle.spv_base.specs.declared.fault.Refusal.{Refusal}
 use Rattle.spv_module.specs.First.{here, unless, first, least, at_place}
 use Rattle.spv_module.proofs.FirstLemmas.{first-here-later}
-use Rattle.spv_blocks.specs.Blocks.{Code, Block, Open, block, of_block, branches, construct, end_targets, last_opens, has, stops, targets}
-use Rattle.spv_walk.specs.Contexts.{Context, is_exit, is_fall, behind}
-use Rattle.spv_walk.specs.Walk.{end_of, leads}
-use Rattle.spv_walk.specs.Walked.{admits}
+use Rattle.spv_blocks.specs.Blocks.{Code, Block, block, of_block, end_targets, stops, targets}
+use Rattle.spv_walk.specs.Contexts.{Context}
 use Rattle.spv_walk.specs.Rules.{end_at}
-use Rattle.spv_walk.specs.Found.{refuses, target_rules, all_target_rules}
-use Rattle.spv_walk.proofs.Unique.{left_holds, right_holds, true_equal}
+use Rattle.spv_walk.specs.Found.{target_rules, all_target_rules}
 use Rattle.spv_walking.specs.Least.{lesser}
-use Rattle.spv_walking.specs.Onward.{opened}
 
 -- ---- the least of two lists
 

@@ -4,4 +4,7 @@ pub mod Least
 pub mod Contexts
 pub mod Onward
 pub mod Table
+pub mod Edges
+pub mod Lost
+pub mod Depths
 pub mod Steps

@@ -1,7 +1,7 @@
 -- What is walked directly behind a block, by a table of the blocks from which labels are entered.
-use Rattle.std.specs.Prelude.{◌≡◌, ℕ, Bool, true, not, ◌&&◌, ◌||◌, List, ◌∷◌, Option, Some, None}
-use Rattle.spv_blocks.specs.Blocks.{Code, Block, End, Construct, ASelection, ASwitch, ALoop, has, end_targets, last_opens, merge_of, next_of, is_role, is_it, stops}
-use Rattle.spv_walk.specs.Contexts.{InSelection, InArm, InBody, Context, is_exit, is_fall, behind, next_context}
+use Rattle.std.specs.Prelude.{◌≡◌, ℕ, Bool, true, not, ◌&&◌, List, ◌∷◌, Option, Some, None}
+use Rattle.spv_blocks.specs.Blocks.{Code, Block, End, Construct, ASelection, ASwitch, ALoop, has, end_targets, last_opens, merge_of, next_of, is_role}
+use Rattle.spv_walk.specs.Contexts.{InSelection, InArm, InBody, Context, is_exit, behind, next_context}
 use Rattle.spv_walk.specs.Walked.{admits}
 
 -- the construct of a block

@@ -120,6 +120,28 @@ impl Rows {
         self.row(place).depth
     }
 
+    /// How many constructs lie round the place behind the merge instruction of a block at a place, on the way to the target
+    /// of its terminator.
+    #[tactic(auto, using(crate::proofs::GreatestDepth::length_behind))]
+    pub fn depth_behind(
+        &self,
+        place: usize,
+        construct: Option<Construct>,
+        header: u32,
+        target: u32,
+    ) -> usize
+        requires { place < length self.now }
+        ensures { result ≡ length (behind (option_map seen_construct construct) header target (context_at self.now place)) }
+    {
+        // there are fewer constructs round a place than places, so that one more can be counted
+        let _places = self.count();
+        let row = self.row(place);
+        match construct {
+            None => row.depth,
+            Some(_) => row.depth + 1,
+        }
+    }
+
     /// Whether a place is in a continue part.
     pub fn in_next(&self, place: usize) -> bool
         requires { place < length self.now }

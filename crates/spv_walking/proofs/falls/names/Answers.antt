@@ -1,4 +1,4 @@
-use Rattle.std.proofs.Common.{◌≡◌, ◌==◌, ◌||◌, ℕ, List, sym, ap, ◌∙◌}
+use Rattle.std.proofs.Common.{◌==◌, ◌||◌, ℕ, List, sym, ap, ◌∙◌}
 use Rattle.std.specs.List.{list_any}
 use Rattle.spv_blocks.specs.Blocks.{end_targets, has, seconds}
 use Rattle.spv_blocks.specs.Seen.{seen_end}
