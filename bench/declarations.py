@@ -14,8 +14,10 @@ members      members of structs of 16,383, the most that one may have, each with
 import struct
 import sys
 
-HEADER_WORDS = 5
-BOUND_AT = 3
+sys.dont_write_bytecode = True
+
+from shader import BOUND_AT, HEADER_WORDS, instructions, opcode
+
 OP_TYPE_VOID, OP_TYPE_INT, OP_TYPE_ARRAY, OP_TYPE_STRUCT = 19, 21, 28, 30
 OP_CONSTANT, OP_SPEC_CONSTANT, OP_FUNCTION = 43, 50, 54
 OP_DECORATE, OP_MEMBER_DECORATE = 71, 72
@@ -23,18 +25,6 @@ SPEC_ID, OFFSET = 1, 35
 MOST_MEMBERS = 16_383
 MOST_DEPTH = 200
 MOST_IDS = 4_194_303
-
-
-def instructions(words):
-    at = HEADER_WORDS
-    while at < len(words):
-        end = at + (words[at] >> 16)
-        yield words[at:end]
-        at = end
-
-
-def opcode(instruction):
-    return instruction[0] & 0xFFFF
 
 
 def instruction(code, *operands):

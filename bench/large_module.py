@@ -11,23 +11,13 @@ its debug instructions.
 import struct
 import sys
 
+sys.dont_write_bytecode = True
+
+from shader import BOUND_AT, HEADER_WORDS, instructions, opcode
+
 MOST_WORDS = 4_194_304 // 4
-HEADER_WORDS = 5
-BOUND_AT = 3
 OP_SOURCE, OP_NAME, OP_TYPE_INT, OP_CONSTANT, OP_FUNCTION = 3, 5, 21, 43, 54
 DEBUG = {OP_SOURCE, OP_NAME}
-
-
-def instructions(words):
-    at = HEADER_WORDS
-    while at < len(words):
-        end = at + (words[at] >> 16)
-        yield words[at:end]
-        at = end
-
-
-def opcode(instruction):
-    return instruction[0] & 0xFFFF
 
 
 def to_bytes(header, body):
