@@ -83,7 +83,7 @@ pub arm_block : (block : Block) → arm_body (arm.Block block) ≡ plain.Enters 
 unfolding arm_body
 arm_block block = ap (plain.Enters block.label) (part_is block.body.items (end_body block.body.end))
 
-rolled : (r : _) → arm_body (arm.Loop (roll-Entered r)) ≡ item_then (item.Loop r.turn.value) (sequence_body r.rest)
+pub rolled : (r : _) → arm_body (arm.Loop (roll-Entered r)) ≡ item_then (item.Loop r.turn.value) (sequence_body r.rest)
 unfolding arm_body item_then roll-Entered denote.Hole.Carrier.roll
 rolled r =
     ap (λ z. plain.Loops (entry_of r.turn.value.entry) (front_of r.turn.value.header) r.turn.value.control (steps_then r.turn.value.steps (opening_body r.turn.value.opening)) (front_of r.turn.value.next)

@@ -19,12 +19,12 @@ reaches_one [] exit h = h
 reaches_one (front ∷ fronts) exit (inl h) = inl h.0
 reaches_one (front ∷ fronts) exit (inr h) = inr (reaches_one fronts exit h)
 
-known_front : (functions : ℕ → Option Function) (a b : List Statement) → CallsKnown functions (a ++ b) → CallsKnown functions a
+pub known_front : (functions : ℕ → Option Function) (a b : List Statement) → CallsKnown functions (a ++ b) → CallsKnown functions a
 known_front functions [] b h = tt
 known_front functions (says.FunctionCall t r f arguments ∷ a) b h = (h.0, known_front functions a b h.1)
 known_front functions (other ∷ a) b h = known_front functions a b h
 
-known_rest : (functions : ℕ → Option Function) (a b : List Statement) → CallsKnown functions (a ++ b) → CallsKnown functions b
+pub known_rest : (functions : ℕ → Option Function) (a b : List Statement) → CallsKnown functions (a ++ b) → CallsKnown functions b
 known_rest functions [] b h = h
 known_rest functions (s ∷ a) b h = known_rest functions a b (known_behind functions s (a ++ b) h)
 

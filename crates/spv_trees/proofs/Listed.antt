@@ -42,19 +42,19 @@ place_in (says.Label r ∷ front) label rest h =
     ∙ place_in front label rest h.1
 place_in (other ∷ front) label rest h = place_in front label rest h
 
-place : (all : List Statement) → Distinct (labels_in all) → (label : ℕ) (rest : List Statement) → Ends all (says.Label label ∷ rest) → behind_label all label ≡ Some rest
+pub place : (all : List Statement) → Distinct (labels_in all) → (label : ℕ) (rest : List Statement) → Ends all (says.Label label ∷ rest) → behind_label all label ≡ Some rest
 place all distinct label rest h =
     subst (λ z. behind_label z label ≡ Some rest) (sym h.1) (place_in h.0 label rest (subst (λ z. Distinct (labels_in z)) h.1 distinct))
 
 -- ---- statements that do not begin with OpPhi
 
-record Plain (rest : List Statement) : Type 0 where
-  sources : (block : ℕ) → phi_sources rest block ≡ Some []
-  results : phi_results rest ≡ []
-  behind : behind_phis rest ≡ rest
-  copied : (body : Body) → copies rest [] body ≡ body
+pub record Plain (rest : List Statement) : Type 0 where
+  pub sources : (block : ℕ) → phi_sources rest block ≡ Some []
+  pub results : phi_results rest ≡ []
+  pub behind : behind_phis rest ≡ rest
+  pub copied : (body : Body) → copies rest [] body ≡ body
 
-plain_first : (s : Statement) (rest : List Statement) → is_phi s ≡ false → Plain (s ∷ rest)
+pub plain_first : (s : Statement) (rest : List Statement) → is_phi s ≡ false → Plain (s ∷ rest)
 plain_first (says.Phi t r pairs) rest e = absurd (cc e)
 plain_first other rest e = record { sources = λ block. refl; results = refl; behind = refl; copied = λ body. refl }
 
@@ -335,7 +335,7 @@ no_other : {X : Type 0} (b : Bool) (x : X) (o : Option X) → cond b (Some x) o 
 no_other true x o e = absurd (cc e)
 no_other false x o e = (refl, e)
 
-function_behind : (front : List Statement) (r : ℕ) (rest : List Statement) → behind_function front r ≡ None → behind_function (front ++ says.Function r ∷ rest) r ≡ Some rest
+pub function_behind : (front : List Statement) (r : ℕ) (rest : List Statement) → behind_function front r ≡ None → behind_function (front ++ says.Function r ∷ rest) r ≡ Some rest
 function_behind [] r rest h = ap (λ b. cond b (Some rest) (behind_function rest r)) (eq-eqb r r refl)
 function_behind (says.Function q ∷ front) r rest h =
     let parts = no_other (q == r) front (behind_function front r) h in

@@ -55,15 +55,15 @@ silent_or_said false s rest = refl
 pub said_front : (words : List ℕ) (rest : List Statement) → said words rest ≡ said words [] ++ rest
 said_front words rest = silent_or_said (is_silent_opcode (opcode_of (slice_index words 0))) (by_row (lookup (nat_eq (opcode_of (slice_index words 0))) rows) (drop 1 words)) rest
 
-pairs_again : (ps : List (ℕ × ℕ)) → pairs (pair_words ps) ≡ ps
+pub pairs_again : (ps : List (ℕ × ℕ)) → pairs (pair_words ps) ≡ ps
 pairs_again [] = refl
 pairs_again (p ∷ ps) = ap (λ l. p ∷ l) (pairs_again ps)
 
 -- what words of an opcode say
-abbrev said_by : (opcode : ℕ) → List ℕ → List Statement → List Statement
+abbrev pub said_by : (opcode : ℕ) → List ℕ → List Statement → List Statement
 said_by opcode words rest = cond (is_silent_opcode opcode) rest (by_row (lookup (nat_eq opcode) rows) words ∷ rest)
 
-said_instruction : (opcode : ℕ) (words : List ℕ) (rest : List Statement) → opcode < 65536 → said (instruction opcode words) rest ≡ said_by opcode words rest
+pub said_instruction : (opcode : ℕ) (words : List ℕ) (rest : List Statement) → opcode < 65536 → said (instruction opcode words) rest ≡ said_by opcode words rest
 said_instruction opcode words rest lt = ap (λ o. said_by o words rest) (mod-mul-add (length words + 1) 65536 opcode lt)
 
 phi_said : (k : ℕ) (all : List Branching) (p : Parameter) (rest : List Statement) → said (phi_line k all p) rest ≡ says.Phi p.type p.result_id (phi_pairs k (in_order p.parents all)) ∷ rest
@@ -71,12 +71,12 @@ phi_said k all p rest =
     said_instruction op.PHI (p.type ∷ p.result_id ∷ pair_words (phi_pairs k (in_order p.parents all))) rest (omega arith)
     ∙ ap (λ ps. says.Phi p.type p.result_id ps ∷ rest) (pairs_again (phi_pairs k (in_order p.parents all)))
 
-switch_said : (selector default : ℕ) (cases : List (ℕ × ℕ)) (rest : List Statement) → said (instruction op.SWITCH (selector ∷ default ∷ pair_words cases)) rest ≡ says.Switch selector default cases ∷ rest
+pub switch_said : (selector default : ℕ) (cases : List (ℕ × ℕ)) (rest : List Statement) → said (instruction op.SWITCH (selector ∷ default ∷ pair_words cases)) rest ≡ says.Switch selector default cases ∷ rest
 switch_said selector default cases rest =
     said_instruction op.SWITCH (selector ∷ default ∷ pair_words cases) rest (omega arith)
     ∙ ap (λ ps. says.Switch selector default ps ∷ rest) (pairs_again cases)
 
-split_said : (condition : ℕ) (on : Bool) (exit other : ℕ) (rest : List Statement) → said (split_line condition on exit other) rest ≡ says.BranchConditional condition (cond on exit other) (cond on other exit) ∷ rest
+pub split_said : (condition : ℕ) (on : Bool) (exit other : ℕ) (rest : List Statement) → said (split_line condition on exit other) rest ≡ says.BranchConditional condition (cond on exit other) (cond on other exit) ∷ rest
 split_said condition true exit other rest = refl
 split_said condition false exit other rest = refl
 

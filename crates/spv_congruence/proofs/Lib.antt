@@ -1,0 +1,14 @@
+pub mod Relating
+pub mod OneSided
+pub mod Doing
+pub mod Functions
+pub mod Second
+pub mod Ways
+pub mod Congruent
+pub mod Machines
+pub mod Operands
+pub mod Identity
+pub mod Example
+pub mod Uniform
+pub mod Once
+pub mod InPlace

@@ -1,0 +1,12 @@
+pub mod Relation
+pub mod Statements
+pub mod Shape
+pub mod Laws
+pub mod OneSided
+pub mod Operands
+pub mod Identity
+pub mod Example
+pub mod Uniform
+pub mod Once
+pub mod InPlace
+pub mod Small

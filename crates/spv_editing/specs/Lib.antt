@@ -1,0 +1,5 @@
+pub mod Editing
+pub mod Showing
+pub mod Code
+pub mod Laws
+pub mod Facts

@@ -1,0 +1,3 @@
+pub mod BlockFaults
+pub mod FunctionFaults
+pub mod OwnLabels

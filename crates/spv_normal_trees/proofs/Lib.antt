@@ -1,0 +1,17 @@
+pub mod Members
+pub mod Regions
+pub mod RegionBlocks
+pub mod Leaving
+pub mod RegionOrder
+pub mod RegionWhole
+pub mod RegionExits
+pub mod Staying
+pub mod Texts
+pub mod NormalBlocks
+pub mod Arranging
+pub mod Grown
+pub mod Growing
+pub mod FrontPhis
+pub mod PhiWords
+pub mod GoodPhis
+pub mod Listed

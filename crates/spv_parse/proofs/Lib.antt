@@ -1,0 +1,15 @@
+pub mod Labelled
+pub mod Standing
+pub mod Spelled
+pub mod Continuing
+pub mod FirstTargets
+pub mod Branching
+pub mod Choosing
+pub mod Looping
+pub mod Closing
+pub mod Entered
+pub mod Scenes
+pub mod Pushed
+pub mod First
+pub mod Admitted
+pub mod FewWords

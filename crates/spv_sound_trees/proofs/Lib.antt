@@ -1,0 +1,13 @@
+pub mod Marks
+pub mod Nodes
+pub mod Pieces
+pub mod Apart
+pub mod Instructions
+pub mod Filled
+pub mod Formed
+pub mod Arriving
+pub mod Sound
+pub mod Deep
+pub mod Depths
+pub mod Short
+pub mod SmallTrees

@@ -1,0 +1,11 @@
+pub mod Words
+pub mod Tails
+pub mod Behind
+pub mod Runs
+pub mod Closings
+pub mod Pairings
+pub mod Collected
+pub mod Filled
+pub mod Chains
+pub mod Followed
+pub mod Sources

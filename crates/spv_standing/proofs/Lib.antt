@@ -1,0 +1,9 @@
+pub mod Saying
+pub mod Rounds
+pub mod Lines
+pub mod Fronts
+pub mod Fits
+pub mod Places
+pub mod Parts
+pub mod Spelled
+pub mod SmallModule

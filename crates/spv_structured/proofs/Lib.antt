@@ -1,0 +1,16 @@
+pub mod Lists
+pub mod Middles
+pub mod Stands
+pub mod ListedBlocks
+pub mod Bare
+pub mod Counting
+pub mod Naming
+pub mod Positions
+pub mod Induction
+pub mod Targets
+pub mod OwnBlocks
+pub mod Looked
+pub mod Exits
+pub mod Entered
+pub mod Unbroken
+pub mod Samples

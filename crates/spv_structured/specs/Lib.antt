@@ -1,0 +1,4 @@
+pub mod Structured
+pub mod Spots
+pub mod Laws
+pub mod Facts
