@@ -20,6 +20,17 @@ use Rattle.spv_spelling.proofs.Settled.{clean_by_tables, clean_without_pointers,
 use Rattle.spv_texts.proofs.Marks.{blocks_without_marks}
 use Rattle.spv_flow.specs.Known.{AreToldLoops}
 use Rattle.spv_parse.specs.Functions.{IsNested}
+use Rattle.std.specs.List.{count_by}
+use Rattle.spv_base.specs.declared.fault.Refusal.{Refusal}
+use Rattle.spv_module.specs.Broken.{group_1}
+use Rattle.spv_module.specs.Code.{Code as Code_of, code_of}
+use Rattle.spv_module.specs.Decode.{Decodes}
+use Rattle.spv_module.specs.First.{first, first_group}
+use Rattle.spv_module.specs.Layout.{group_2}
+use Rattle.spv_blocks.specs.Cutting.{function_from, starts}
+use Rattle.spv_texts.proofs.Functions.{laid_out}
+use Rattle.spv_parse.specs.Functions.{IsLaidOut}
+use Rattle.std.proofs.Common.{Ok}
 
 some_same : (i j : Instruction) → Some i ≡ Some j → i ≡ j
 some_same i j e = cc
@@ -149,3 +160,22 @@ module _ (is_pointer : ℕ → Bool) (insts : List Instruction) (f : Code) (ente
     unbroken = subst (λ (z : Code). IsFirst (Broken is_pointer z) None) t.same t.unbroken;
     greatest = subst (λ (z : Code). IsDepth z (Walk z) n) t.same (depth_by_walk is_pointer f enterer t.loops.ends place tables t.unbroken n d);
   }
+
+-- ---- the first function of a module that is read
+
+second_none : (one other : Option Refusal) → first_group one other ≡ None → other ≡ None
+second_none None other e = e
+second_none (Some refusal) other e = absurd (cc (e))
+
+pub read_laid_out : (words : List ℕ) (code : Code_of) → Decodes words (Ok code) → IsLaidOut code.insts
+read_laid_out words code read = record {
+  end = length words;
+  unbroken =
+      ap (λ z. first (group_2 (length words) z.insts)) read.1
+      ∙ second_none (first (group_1 words)) (first (group_2 (length words) (code_of words).insts)) read.0;
+}
+
+pub first_text : (insts : List Instruction) (k : ℕ) → AreInstructions insts → IsLaidOut insts → 0 < count_by is_function insts → slice_get (starts insts) 0 ≡ Some k
+    → IsText (without_marks (function_at k insts))
+first_text insts k each laid some is =
+    subst (λ z. IsText (without_marks (function_from insts z))) is (laid_out laid.end 0 insts each laid.unbroken some)

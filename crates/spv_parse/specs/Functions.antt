@@ -1,8 +1,10 @@
 -- What parsing a function answers.
-use Rattle.std.specs.Prelude.{ℕ, ◌<◌, ◌≤◌, Bool, List, None, Some, Result, Ok, Err}
+use Rattle.std.specs.Prelude.{◌≡◌, ℕ, ◌<◌, ◌≤◌, Bool, List, None, Some, Result, Ok, Err}
 use Rattle.spv_base.specs.declared.fault.Fault.{Fault}
 use Rattle.spv_base.specs.declared.fault.Fault.TheVariants as faults
+use Rattle.spv_module.specs.First.{first}
 use Rattle.spv_module.specs.Instruction.{Instruction}
+use Rattle.spv_module.specs.Layout.{group_2}
 use Rattle.spv_blocks.specs.Cutting.{blocks_of}
 use Rattle.spv_walk.specs.Rules.{Broken, IsFirst}
 use Rattle.spv_walk.specs.Walk.{Walk}
@@ -14,6 +16,11 @@ use Rattle.spv_spelling.specs.Whole.{IsAdmitted}
 use Rattle.spv_spelling.specs.Whole.{IsAdmitted}
 use Rattle.spv_tree.specs.declared.body.Body.{Body}
 use Rattle.spv_tree.specs.Tree.{body_of}
+
+-- no rule on the layout of a module is broken
+pub record IsLaidOut (insts : List Instruction) : Type 0 where
+  pub end : ℕ
+  pub unbroken : first (group_2 end insts) ≡ None
 
 -- no rule on structured control flow is broken, and this is the greatest number of constructs round one point
 pub record IsNested (is_pointer : ℕ → Bool) (insts : List Instruction) (depth : ℕ) : Type 0 where

@@ -13,3 +13,6 @@ mod ways;
 
 pub use building::build;
 pub use functions::parse_function;
+
+#[cfg(test)]
+mod tests;
