@@ -1,0 +1,7 @@
+pub mod RolesStay
+pub mod Lists
+pub mod Counting
+pub mod PutWhole
+pub mod Replaced
+pub mod FreshSteps
+pub mod FunctionSteps
