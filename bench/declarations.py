@@ -11,12 +11,11 @@ decorations  a SpecId for each of so many specialisation constants
 members      members of structs of 16,383, the most that one may have, each with its Offset
 """
 
-import struct
 import sys
 
 sys.dont_write_bytecode = True
 
-from shader import BOUND_AT, HEADER_WORDS, instructions, opcode
+from shader import BOUND_AT, instruction, opcode, read, write
 
 OP_TYPE_VOID, OP_TYPE_INT, OP_TYPE_ARRAY, OP_TYPE_STRUCT = 19, 21, 28, 30
 OP_CONSTANT, OP_SPEC_CONSTANT, OP_FUNCTION = 43, 50, 54
@@ -25,10 +24,6 @@ SPEC_ID, OFFSET = 1, 35
 MOST_MEMBERS = 16_383
 MOST_DEPTH = 200
 MOST_IDS = 4_194_303
-
-
-def instruction(code, *operands):
-    return [(1 + len(operands)) << 16 | code, *operands]
 
 
 def constants(integer, length, ids):
@@ -67,11 +62,7 @@ KINDS = {made.__name__: made for made in (constants, arrays, decorations, member
 
 
 def main(shader, kind, count, spacing, module):
-    with open(shader, "rb") as file:
-        data = file.read()
-    words = list(struct.unpack(f"<{len(data) // 4}I", data))
-    header, body = words[:HEADER_WORDS], list(instructions(words))
-
+    header, body = read(shader)
     first, spacing = header[BOUND_AT], int(spacing)
     ids = range(first, first + int(count) * spacing, spacing)
     if ids[-1] >= MOST_IDS:
@@ -86,13 +77,7 @@ def main(shader, kind, count, spacing, module):
 
     # Decorations go in front of the types, declarations in front of the function.
     types, function = opcodes.index(OP_TYPE_VOID), opcodes.index(OP_FUNCTION)
-    body = body[:types] + marks + body[types:function] + made + body[function:]
-
-    out = list(header)
-    for it in body:
-        out.extend(it)
-    with open(module, "wb") as file:
-        file.write(struct.pack(f"<{len(out)}I", *out))
+    write(module, header, body[:types] + marks + body[types:function] + made + body[function:])
 
 
 main(*sys.argv[1:])

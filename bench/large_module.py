@@ -13,48 +13,35 @@ import sys
 
 sys.dont_write_bytecode = True
 
-from shader import BOUND_AT, HEADER_WORDS, instructions, opcode
+from shader import BOUND_AT, HEADER_WORDS, instruction, opcode, read, write
 
 MOST_WORDS = 4_194_304 // 4
 OP_SOURCE, OP_NAME, OP_TYPE_INT, OP_CONSTANT, OP_FUNCTION = 3, 5, 21, 43, 54
 DEBUG = {OP_SOURCE, OP_NAME}
 
 
-def to_bytes(header, body):
-    words = list(header)
-    for instruction in body:
-        words.extend(instruction)
-    return struct.pack(f"<{len(words)}I", *words)
-
-
 def name(target, text):
     padded = text.encode() + b"\0" * (4 - len(text) % 4)
     string = struct.unpack(f"<{len(padded) // 4}I", padded)
-    return [(2 + len(string)) << 16 | OP_NAME, target, *string]
+    return instruction(OP_NAME, target, *string)
 
 
 def main(shader, module, stripped):
-    with open(shader, "rb") as file:
-        data = file.read()
-    words = list(struct.unpack(f"<{len(data) // 4}I", data))
-    header, body = words[:HEADER_WORDS], list(instructions(words))
-
-    pairs = (MOST_WORDS - len(words)) // 8
+    header, body = read(shader)
+    pairs = (MOST_WORDS - HEADER_WORDS - sum(map(len, body))) // 8
     fresh = range(header[BOUND_AT], header[BOUND_AT] + pairs)
     header[BOUND_AT] += pairs
     opcodes = [opcode(it) for it in body]
     uint = body[opcodes.index(OP_TYPE_INT)][1]
-    constants = [[4 << 16 | OP_CONSTANT, uint, id, id] for id in fresh]
+    constants = [instruction(OP_CONSTANT, uint, id, id) for id in fresh]
     names = [name(id, f"c{id:06}") for id in fresh]
 
     # Names go behind the name that is there, constants in front of the function.
     named, function = opcodes.index(OP_NAME) + 1, opcodes.index(OP_FUNCTION)
     body = body[:named] + names + body[named:function] + constants + body[function:]
 
-    with open(module, "wb") as file:
-        file.write(to_bytes(header, body))
-    with open(stripped, "wb") as file:
-        file.write(to_bytes(header, [it for it in body if opcode(it) not in DEBUG]))
+    write(module, header, body)
+    write(stripped, header, [it for it in body if opcode(it) not in DEBUG])
 
 
 main(*sys.argv[1:])

@@ -12,7 +12,7 @@ use Rattle.spv_walk.specs.Contexts.{Context}
 use Rattle.spv_walk.specs.Phis.{names_each_once, phi_faults, phi_fits, predecessors}
 use Rattle.spv_walk.specs.Walk.{Walk}
 use Rattle.spv_walk.proofs.Unique.{tells, both_hold, both_left, both_right, equal_true, false_equal, not_true, true_equal}
-use Rattle.spv_bodies.specs.Bodies.{Function}
+use Rattle.spv_bodies.specs.Bodies.{Function, Parameter}
 use Rattle.spv_bodies.specs.Listing.{Branching, arriving, from_block, from_others, in_order}
 use Rattle.spv_tree.specs.Branches.{branches_in}
 use Rattle.spv_normal.specs.Lines.{behind_label, line, up_to_terminator}
@@ -139,6 +139,12 @@ module _ (insts : List Instruction) (stays : ℕ → ℕ) (tree : Function) (adm
     | inr s ↦ came t xs (All-tail (IsBranching insts stays) x xs h) e (subst (λ b. Among e (cond b (x ∷ arriving t xs) (arriving t xs))) s k)
   ]
 
+  -- the OpPhi of a walked block
+  pub walked_phis : (t : ℕ) (c : Context) → Walk f t c → AllByRecursion (PhiFits is_pointer f t) (phis (text insts t))
+  walked_phis t c w =
+      let i = walked is_pointer f clean t c w in
+      phis_fit is_pointer f t (behind_label insts t) (ap (phi_faults is_pointer f t) (sym (cut insts t i.block_of i.at).body) ∙ i.settled_there.phis)
+
   module _ (t : ℕ) (front : is_front f t ≡ true) where
     abbrev here : List Branching
     here = arriving t all
@@ -149,41 +155,56 @@ module _ (insts : List Instruction) (stays : ℕ → ℕ) (tree : Function) (adm
         map-append (λ b. b.0) (from_block here (stays x)) (flat_map (from_block here) (map stays xs))
         ∙ ap₂ (λ y ys. y ++ ys) (one_from (stays x) here (are.once x t (h x (has_head x xs x refl)) front)) (in_turn xs (λ z k. h z (has_tail x xs z k)))
 
-    -- an OpPhi that names each predecessor once
-    each_once : (xs : List ℕ) → names_each_once (predecessors f t) xs ≡ true
-        → names_each_once (map (λ b. b.0) here) (map (λ b. b.0) (in_order (map stays xs) here)) ≡ true
-    each_once xs e =
-        let counted : list_all (λ q. times xs q == 1) (predecessors f t) ≡ true =
-        both_left (list_all (λ q. times xs q == 1) (predecessors f t)) (list_all (λ q. has (predecessors f t) q) xs) e in
+    -- an OpPhi that names each predecessor once: where it names a block, that branches there, and it names each that does
+    named_branches : (xs : List ℕ) → names_each_once (predecessors f t) xs ≡ true → (x : ℕ) → has xs x ≡ true → branches f x t ≡ true
+    named_branches xs e x h =
         let only : list_all (λ q. has (predecessors f t) q) xs ≡ true =
         both_right (list_all (λ q. times xs q == 1) (predecessors f t)) (list_all (λ q. has (predecessors f t) q) xs) e in
-        let branch : (x : ℕ) → has xs x ≡ true → branches f x t ≡ true = λ x h.
-        (filter_has (λ q. branches f q t) (map (λ b. b.label) f) x (all_pass (λ q. has (predecessors f t) q) xs x only h)).1 in
-        let named : (b : ℕ) → branches f b t ≡ true → times xs b ≡ 1 = λ b h.
-        equal_true (times xs b) 1 (all_pass (λ q. times xs q == 1) (predecessors f t) b counted (is_predecessor f b t h)) in
+        (filter_has (λ q. branches f q t) (map (λ b. b.label) f) x (all_pass (λ q. has (predecessors f t) q) xs x only h)).1
+
+    branching_named : (xs : List ℕ) → names_each_once (predecessors f t) xs ≡ true → (b : ℕ) → branches f b t ≡ true → times xs b ≡ 1
+    branching_named xs e b h =
+        let counted : list_all (λ q. times xs q == 1) (predecessors f t) ≡ true =
+        both_left (list_all (λ q. times xs q == 1) (predecessors f t)) (list_all (λ q. has (predecessors f t) q) xs) e in
+        equal_true (times xs b) 1 (all_pass (λ q. times xs q == 1) (predecessors f t) b counted (is_predecessor f b t h))
+
+    -- so the branches come in its order, and no other does
+    in_its_order : (xs : List ℕ) → names_each_once (predecessors f t) xs ≡ true → map (λ b. b.0) (in_order (map stays xs) here) ≡ map stays xs
+    in_its_order xs e =
         let others : from_others here (map stays xs) ≡ [] =
         no_others (map stays xs) here (λ g k. let c = came t all are.each g k in
         subst (λ s. list_any (nat_eq s) (map stays xs) ≡ true) (sym c.named)
-        (stands_among stays xs c.block (named_stands xs c.block (named c.block c.branch)))) in
-        let order : map (λ b. b.0) (in_order (map stays xs) here) ≡ map stays xs =
+        (stands_among stays xs c.block (named_stands xs c.block (branching_named xs e c.block c.branch)))) in
         ap (λ z. map (λ b. b.0) (flat_map (from_block here) (map stays xs) ++ z)) others
-        ∙ ap (map (λ b. b.0)) (append-nil (flat_map (from_block here) (map stays xs))) ∙ in_turn xs branch in
-        ap (names_each_once (map (λ b. b.0) here)) order
+        ∙ ap (map (λ b. b.0)) (append-nil (flat_map (from_block here) (map stays xs))) ∙ in_turn xs (named_branches xs e)
+
+    each_once : (xs : List ℕ) → names_each_once (predecessors f t) xs ≡ true
+        → names_each_once (map (λ b. b.0) here) (map (λ b. b.0) (in_order (map stays xs) here)) ≡ true
+    each_once xs e =
+        ap (names_each_once (map (λ b. b.0) here)) (in_its_order xs e)
         ∙ both_hold (list_all (λ q. times (map stays xs) q == 1) (map (λ b. b.0) here)) (list_all (λ q. has (map (λ b. b.0) here) q) (map stays xs))
         (all_first (λ q. times (map stays xs) q == 1) here (λ g k. let c = came t all are.each g k in
         true_equal (times (map stays xs) g.0) 1
         (ap (times (map stays xs)) c.named
-        ∙ renamed_times stays xs c.block (λ x h s. one_block insts stays tree admitted spells t front x c.block (branch x h) c.branch s)
-        ∙ named c.block c.branch)))
-        (all_named (λ q. has (map (λ b. b.0) here) q) stays xs (λ x h. one_stands (stays x) here (are.once x t (branch x h) front)))
+        ∙ renamed_times stays xs c.block
+        (λ x h s. one_block insts stays tree admitted spells t front x c.block (named_branches xs e x h) c.branch s)
+        ∙ branching_named xs e c.block c.branch)))
+        (all_named (λ q. has (map (λ b. b.0) here) q) stays xs (λ x h. one_stands (stays x) here (are.once x t (named_branches xs e x h) front)))
 
     parameters_fit : (ps : List (List ℕ)) → AllByRecursion (PhiFits is_pointer f t) ps
         → AllByRecursion (ParameterFits is_pointer here) (map (parameter_of stays) ps)
     parameters_fit [] h = tt
     parameters_fit (p ∷ ps) h = (record { value = h.0.value; named = each_once (seconds (phi_pairs p)) h.0.once }, parameters_fit ps h.1)
 
+    parameters_named : (ps : List (List ℕ)) → AllByRecursion (PhiFits is_pointer f t) ps
+        → AllByRecursion (λ (p : Parameter). map (λ b. b.0) (in_order p.parents here) ≡ p.parents) (map (parameter_of stays) ps)
+    parameters_named [] h = tt
+    parameters_named (p ∷ ps) h = (in_its_order (seconds (phi_pairs p)) h.0.once, parameters_named ps h.1)
+
     pub front_fits : (c : Context) → Walk f t c → FrontFits is_pointer all (front_of insts stays t)
-    front_fits c w =
-        let i = walked is_pointer f clean t c w in
-        parameters_fit (phis (text insts t))
-        (phis_fit is_pointer f t (behind_label insts t) (ap (phi_faults is_pointer f t) (sym (cut insts t i.block_of i.at).body) ∙ i.settled_there.phis))
+    front_fits c w = parameters_fit (phis (text insts t)) (walked_phis t c w)
+
+    -- each parameter names the blocks of the branches that come, in their order
+    pub front_named : (c : Context) → Walk f t c
+        → AllByRecursion (λ (p : Parameter). map (λ b. b.0) (in_order p.parents here) ≡ p.parents) (front_of insts stays t).parameters
+    front_named c w = parameters_named (phis (text insts t)) (walked_phis t c w)

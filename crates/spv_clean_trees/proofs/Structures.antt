@@ -66,7 +66,7 @@ parameter_lines (i ∷ is) h = (
       (All-tail (λ j. opcode j ≡ op.FUNCTION_PARAMETER) i is h),
 )
 
-opens : (insts : List Instruction) (stays : ℕ → ℕ) (f : Function) → IsAdmitted insts → SpellsFunction insts stays f → Opens f
+pub opens : (insts : List Instruction) (stays : ℕ → ℕ) (f : Function) → IsAdmitted insts → SpellsFunction insts stays f → Opens f
 opens insts stays f admitted spells =
     let t = admitted.text in
     let parted : insts ≡ t.function ∷ (t.parameters ++ t.label ∷ (t.blocks ++ t.last ∷ [])) =

@@ -46,7 +46,7 @@ const FRONT: [u32; 44] = [
     0x0723_0203,
     0x0001_0600,
     0,
-    60,
+    1000,
     0,
     0x0002_0011,
     1,
@@ -222,6 +222,52 @@ const CASES: [Case; 15] = [
     (&[LABEL, 20, RETURN, LABEL, 20, RETURN], Told::Nothing),
 ];
 
+/// The label of the k-th header of nested selections, counted from 0.
+fn header(k: u16) -> u32 {
+    20 + 2 * u32::from(k)
+}
+
+/// The label of the merge block of the k-th.
+fn merge(k: u16) -> u32 {
+    21 + 2 * u32::from(k)
+}
+
+/// The headers of so many selections, each in the first arm of the one before, and the first label in the last of them.
+fn push_headers(words: &mut Vec<u32>, depth: u16) -> Result<(), NoMemory> {
+    'headers: for k in 0..depth {
+        words.extend_from_slice(&[
+            LABEL,
+            header(k),
+            SELECTION,
+            merge(k),
+            0,
+            BRANCH_IF,
+            CONDITION,
+            header(k + 1),
+            merge(k),
+        ])?;
+    }
+    words.extend_from_slice(&[LABEL, header(depth)])?;
+    Ok(())
+}
+
+/// Their merge blocks, the innermost first.
+fn push_merges(words: &mut Vec<u32>, depth: u16) -> Result<(), NoMemory> {
+    'merges: for k in (0..depth).rev() {
+        words.extend_from_slice(&[BRANCH, merge(k), LABEL, merge(k)])?;
+    }
+    words.push(RETURN)?;
+    Ok(())
+}
+
+/// A function, from its first label on, of so many nested selections.
+fn nested(alloc: Global, depth: u16) -> Result<Vec<u32>, NoMemory> {
+    let mut words = Vec::new(alloc);
+    push_headers(&mut words, depth)?;
+    push_merges(&mut words, depth)?;
+    Ok(words)
+}
+
 /// A module of one function with these instructions.
 fn module(alloc: Global, insts: &[u32]) -> Result<Option<Flat>, NoMemory>
     ensures { IfOk result (λ flat. IfSome flat (λ code. IsLaidOut code.insts)) }
@@ -230,7 +276,7 @@ fn module(alloc: Global, insts: &[u32]) -> Result<Option<Flat>, NoMemory>
     words.extend_from_slice(&FRONT)?;
     words.extend_from_slice(insts)?;
     words.push(FUNCTION_END)?;
-    if words.len() > 1000 {
+    if words.len() > 10_000 {
         return Ok(None);
     }
     match decode(alloc, &words) {
@@ -282,5 +328,13 @@ fn functions_are_parsed(rt: HostRuntime) -> Result<(), Fail> {
     'cases: for case in CASES.as_slice() {
         assert_eq!(rt; parse(rt.alloc(), case.0)?, case.1);
     }
+    Ok(())
+}
+
+#[test]
+fn nesting_has_a_limit(rt: HostRuntime) -> Result<(), Fail> {
+    let alloc = rt.alloc();
+    assert_eq!(rt; parse(alloc, &nested(alloc, 255)?)?, Told::Tree(1, 255));
+    assert_eq!(rt; parse(alloc, &nested(alloc, 256)?)?, Told::Deep);
     Ok(())
 }

@@ -183,7 +183,7 @@ module _ (is_pointer : ℕ → Bool) (f : Function) (sound : IsSound f) (arms : 
         (Continued s.label r.label s.context w (runs is_pointer f sound arms g same s n) (ap next_of (opens s n) ∙ is)
         (next_role is_pointer f sound arms g same s l.0 r.label n l.1))
 
-    each_walked : (s : Spot) → Node is_pointer f s → Walk g s.label s.context
+    pub each_walked : (s : Spot) → Node is_pointer f s → Walk g s.label s.context
     each_walked s n =
         induct is_pointer f (λ z. Walk g z.label z.context) (λ s r n led w. way_walked s r n led.node led.child.way led.child.from w) sound arms
         (Starts f.label (first_of is_pointer f sound arms g same f.label ∙ eq-eqb f.label f.label refl)) s n.member
@@ -358,7 +358,7 @@ module _ (is_pointer : ℕ → Bool) (f : Function) (sound : IsSound f) (arms : 
           (ap (λ k. end_rules k (behind k s.label s.label s.context) b.end) (opens s n) ∙ ap (end_rules (construct_in s.body) (behind (construct_in s.body) s.label s.label s.context)) end
           ∙ block_ends s.context s.label s.label s.body all n.position.formed (n.position.flows structured))
 
-      one_back_edge : (s : Spot) → Node is_pointer f s → (m k : ℕ) → construct_in s.body ≡ Some (ALoop m k) → OneBackEdge g s.label
+      pub one_back_edge : (s : Spot) → Node is_pointer f s → (m k : ℕ) → construct_in s.body ≡ Some (ALoop m k) → OneBackEdge g s.label
       one_back_edge s node m k is =
           let loop = loop_of is_pointer f sound arms g same s m k node is in
           let next = loop.next.spot in
@@ -382,7 +382,7 @@ module _ (is_pointer : ℕ → Bool) (f : Function) (sound : IsSound f) (arms : 
 
       -- ---- nothing is broken
 
-      not_bad : (l t : ℕ) (c : Context) → Walk g l c → leads g l c t ≡ true → Enters g l t
+      pub not_bad : (l t : ℕ) (c : Context) → Walk g l c → leads g l c t ≡ true → Enters g l t
       not_bad l t c w h =
           let r = next_walked l t c (walked l c w) h in
           let e = r.4 in

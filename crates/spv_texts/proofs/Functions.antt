@@ -104,7 +104,7 @@ function_section true true o h = refl
 function_section true false o h = ap (λ n. row_section (row_of n)) h ∙ function_row
 function_section false b o h = ap (λ n. row_section (row_of n)) h ∙ function_row
 
-same_opcode : (a b : ℕ) → (a == b) ≡ true → a ≡ b
+pub same_opcode : (a b : ℕ) → (a == b) ≡ true → a ≡ b
 same_opcode a b h = grind (arith, nat_tests)
 
 any_first : (a b : Bool) → a ≡ true → (a || b) ≡ true
@@ -129,7 +129,7 @@ section_above begun x (i ∷ is) lt h = by_first (is_function i) refl h (λ t. s
 -- ---- each instruction fits its place
 
 -- the places and sections go on from a place; behind all a function is over
-abbrev Fits : Place → (begun : Bool) → List Instruction → Type 0
+abbrev pub Fits : Place → (begun : Bool) → List Instruction → Type 0
 Fits place begun [] = is_outside place ≡ true
 Fits place begun (i ∷ is) =
     (fits_place place (plain_section begun i) i ≡ true) × (begun ≡ true → 11 ≤ plain_section begun i) × Fits (behind place i) (begun || is_function i) is
@@ -193,7 +193,7 @@ fits_from before (i ∷ is) h e =
           (subst (λ place. Fits place (list_any is_function (before ++ i ∷ [])) is) (place_push Outside before i) rest),
     )
 
-fits_in_module : (end : ℕ) (insts : List Instruction) → first (group_2 end insts) ≡ None → Fits Outside false (without_lines insts)
+pub fits_in_module : (end : ℕ) (insts : List Instruction) → first (group_2 end insts) ≡ None → Fits Outside false (without_lines insts)
 fits_in_module end insts h =
     let all = nothing_first (group_2 end insts) h in
     let parts = nothing_both (here 5 (missing_rules (without_lines insts))) (layout_from [] (without_lines insts) ++ here end (end_rule (without_lines insts))) all in
@@ -238,39 +238,39 @@ kind_by i false false true l hf hp he hl = AnEnd hf hp he
 kind_by i false false false true hf hp he hl = ALabel hf hp he hl
 kind_by i false false false false hf hp he hl = Another hf hp he hl
 
-kind_of : (i : Instruction) → IsKind i
+pub kind_of : (i : Instruction) → IsKind i
 kind_of i = kind_by i (opcode i == op.FUNCTION) (opcode i == op.FUNCTION_PARAMETER) (opcode i == op.FUNCTION_END) (opcode i == op.LABEL) refl refl refl refl
 
 -- the place that each kind fits
 function_fits : (place : Place) (s : ℕ) (i : Instruction) → (opcode i == op.FUNCTION) ≡ true → fits_place place s i ≡ is_outside place
 function_fits place s i h = grind (arith, nat_tests)
 
-parameter_fits : (place : Place) (s : ℕ) (i : Instruction) → (opcode i == op.FUNCTION) ≡ false → (opcode i == op.FUNCTION_PARAMETER) ≡ true → fits_place place s i ≡ is_head place
+pub parameter_fits : (place : Place) (s : ℕ) (i : Instruction) → (opcode i == op.FUNCTION) ≡ false → (opcode i == op.FUNCTION_PARAMETER) ≡ true → fits_place place s i ≡ is_head place
 parameter_fits place s i f h = grind (arith, nat_tests)
 
-end_fits : (place : Place) (s : ℕ) (i : Instruction) → (opcode i == op.FUNCTION) ≡ false → (opcode i == op.FUNCTION_PARAMETER) ≡ false → (opcode i == op.FUNCTION_END) ≡ true →
+pub end_fits : (place : Place) (s : ℕ) (i : Instruction) → (opcode i == op.FUNCTION) ≡ false → (opcode i == op.FUNCTION_PARAMETER) ≡ false → (opcode i == op.FUNCTION_END) ≡ true →
     fits_place place s i ≡ (not (is_outside place) && not (is_head place))
 end_fits place s i f p h = grind (arith, nat_tests)
 
-label_fits : (place : Place) (s : ℕ) (i : Instruction) → (opcode i == op.FUNCTION) ≡ false → (opcode i == op.FUNCTION_PARAMETER) ≡ false → (opcode i == op.FUNCTION_END) ≡ false →
+pub label_fits : (place : Place) (s : ℕ) (i : Instruction) → (opcode i == op.FUNCTION) ≡ false → (opcode i == op.FUNCTION_PARAMETER) ≡ false → (opcode i == op.FUNCTION_END) ≡ false →
     (opcode i == op.LABEL) ≡ true → fits_place place s i ≡ not (is_outside place)
 label_fits place s i f p e h = grind (arith, nat_tests)
 
-other_fits : (place : Place) (s : ℕ) (i : Instruction) → (opcode i == op.FUNCTION) ≡ false → (opcode i == op.FUNCTION_PARAMETER) ≡ false → (opcode i == op.FUNCTION_END) ≡ false →
+pub other_fits : (place : Place) (s : ℕ) (i : Instruction) → (opcode i == op.FUNCTION) ≡ false → (opcode i == op.FUNCTION_PARAMETER) ≡ false → (opcode i == op.FUNCTION_END) ≡ false →
     (opcode i == op.LABEL) ≡ false → s ≡ 11 → fits_place place s i ≡ is_inside place
 other_fits place s i f p e l h = grind (arith, nat_tests)
 
 -- the place behind each kind
-behind_parameter : (place : Place) (i : Instruction) → (opcode i == op.FUNCTION_PARAMETER) ≡ true → behind place i ≡ place
+pub behind_parameter : (place : Place) (i : Instruction) → (opcode i == op.FUNCTION_PARAMETER) ≡ true → behind place i ≡ place
 behind_parameter place i h = grind (arith, nat_tests)
 
-behind_function : (place : Place) (i : Instruction) → (opcode i == op.FUNCTION) ≡ true → behind place i ≡ Head
+pub behind_function : (place : Place) (i : Instruction) → (opcode i == op.FUNCTION) ≡ true → behind place i ≡ Head
 behind_function place i h = grind (arith, nat_tests)
 
-behind_label : (place : Place) (i : Instruction) → (opcode i == op.LABEL) ≡ true → behind place i ≡ Inside
+pub behind_label : (place : Place) (i : Instruction) → (opcode i == op.LABEL) ≡ true → behind place i ≡ Inside
 behind_label place i h = grind (arith, nat_tests)
 
-behind_other : (place : Place) (i : Instruction) → (opcode i == op.FUNCTION) ≡ false → (opcode i == op.FUNCTION_END) ≡ false → (opcode i == op.LABEL) ≡ false →
+pub behind_other : (place : Place) (i : Instruction) → (opcode i == op.FUNCTION) ≡ false → (opcode i == op.FUNCTION_END) ≡ false → (opcode i == op.LABEL) ≡ false →
     behind place i ≡ cond (is_terminator i) Between place
 behind_other place i f e l = grind (arith, nat_tests)
 
@@ -287,23 +287,23 @@ in_block_by : (i : Instruction) (b : Bool) → (opcode i == op.FUNCTION) ≡ fal
     (row_section (row_of (opcode i)) == 11) ≡ b → (b || stands_in_functions_too i) ≡ true → is_in_block i ≡ true
 in_block_by i b f p e r h = grind (arith, nat_tests)
 
-section_of_other : (i : Instruction) → 11 ≤ plain_section true i → plain_section true i ≡ 11
+pub section_of_other : (i : Instruction) → 11 ≤ plain_section true i → plain_section true i ≡ 11
 section_of_other i h = section_in_function (stands_in_functions_too i) (opcode i) h
 
 -- one instruction more
-abbrev rest_step : Instruction → List Instruction → List Instruction
+abbrev pub rest_step : Instruction → List Instruction → List Instruction
 rest_step i is = cond (is_function i) [] (cond (is_function_end i) (i ∷ []) (i ∷ rest_of_function is))
 
-rest_on : (i : Instruction) (is : List Instruction) → is_function i ≡ false → is_function_end i ≡ false → rest_step i is ≡ i ∷ rest_of_function is
+pub rest_on : (i : Instruction) (is : List Instruction) → is_function i ≡ false → is_function_end i ≡ false → rest_step i is ≡ i ∷ rest_of_function is
 rest_on i is f e = ap (λ (b : Bool). cond b [] (cond (is_function_end i) (i ∷ []) (i ∷ rest_of_function is))) f ∙ ap (λ (b : Bool). cond b (i ∷ []) (i ∷ rest_of_function is)) e
 
-rest_ends : (i : Instruction) (is : List Instruction) → is_function i ≡ false → is_function_end i ≡ true → rest_step i is ≡ i ∷ []
+pub rest_ends : (i : Instruction) (is : List Instruction) → is_function i ≡ false → is_function_end i ≡ true → rest_step i is ≡ i ∷ []
 rest_ends i is f e = ap (λ (b : Bool). cond b [] (cond (is_function_end i) (i ∷ []) (i ∷ rest_of_function is))) f ∙ ap (λ (b : Bool). cond b (i ∷ []) (i ∷ rest_of_function is)) e
 
-differ : true ≡ false → ⊥
+pub differ : true ≡ false → ⊥
 differ h = absurd (cc)
 
-no_function_inside : (place : Place) (s : ℕ) (i : Instruction) → is_outside place ≡ false → (opcode i == op.FUNCTION) ≡ true → fits_place place s i ≡ true → ⊥
+pub no_function_inside : (place : Place) (s : ℕ) (i : Instruction) → is_outside place ≡ false → (opcode i == op.FUNCTION) ≡ true → fits_place place s i ≡ true → ⊥
 no_function_inside place s i o h fits = differ (sym fits ∙ function_fits place s i h ∙ o)
 
 between_is_inside : (b : Bool) (place : Place) → is_outside place ≡ false → is_outside (cond b Between place) ≡ false
@@ -435,7 +435,7 @@ function_of_start insts number s =
 function_is_no_line : (i : Instruction) → is_function i ≡ true → is_line i ≡ false
 function_is_no_line i h = grind (arith, nat_tests)
 
-marks_front : (xs ys : List Instruction) → without_marks (xs ++ ys) ≡ without_marks xs ++ without_marks ys
+pub marks_front : (xs ys : List Instruction) → without_marks (xs ++ ys) ≡ without_marks xs ++ without_marks ys
 marks_front [] ys = refl
 marks_front (x ∷ xs) ys = kept (is_line x) (marks_front xs ys) where
   kept : (b : Bool) → without_marks (xs ++ ys) ≡ without_marks xs ++ without_marks ys →
@@ -443,7 +443,7 @@ marks_front (x ∷ xs) ys = kept (is_line x) (marks_front xs ys) where
   kept true e = e
   kept false e = ap (λ r. x ∷ r) e
 
-marks_function : (i : Instruction) (is : List Instruction) → is_function i ≡ true → without_marks (i ∷ is) ≡ i ∷ without_marks is
+pub marks_function : (i : Instruction) (is : List Instruction) → is_function i ≡ true → without_marks (i ∷ is) ≡ i ∷ without_marks is
 marks_function i is h = ap (λ (b : Bool). cond (not b) (i ∷ without_marks is) (without_marks is)) (function_is_no_line i h)
 
 -- what fits somewhere
@@ -460,7 +460,7 @@ begins_function : (begun b : Bool) → b ≡ true → (begun || b) ≡ true
 begins_function true b h = refl
 begins_function false b h = h
 
-behind_first : (i : Instruction) (is : List Instruction) → is_function i ≡ true → FitsSomewhere (i ∷ is) → Fits Head true is
+pub behind_first : (i : Instruction) (is : List Instruction) → is_function i ≡ true → FitsSomewhere (i ∷ is) → Fits Head true is
 behind_first i is f s =
     subst (λ begun. Fits Head begun is) (begins_function s.begun (is_function i) f) (subst (λ place. Fits place (s.begun || is_function i) is) (behind_function s.place i f) s.fits.2)
 

@@ -69,11 +69,11 @@ unbroken_defines_once insts h k i there plain =
 -- ---- labels among instructions
 
 -- a label stands among them
-abbrev has_label : List Instruction → ℕ → Bool
+abbrev pub has_label : List Instruction → ℕ → Bool
 has_label is l = list_any (λ i. is_label_mark i && (word i 1 == l)) is
 
 -- each stands once
-abbrev LabelsOnce : List Instruction → Type 0
+abbrev pub LabelsOnce : List Instruction → Type 0
 LabelsOnce [] = Unit {0}
 LabelsOnce (i ∷ is) = (is_label_mark i ≡ true → has_label is (word i 1) ≡ false) × LabelsOnce is
 
@@ -151,7 +151,7 @@ later_labels all each once before (j ∷ js) e l h =
           ∙ ap (is_defined (take (length before) all)) (same_opcode (word j 1) l eb) ∙ defined in
           absurd (cc)
 
-labels_once_from : (all : List Instruction) → AreInstructions all → DefinesOnce all → (before rest : List Instruction) → all ≡ before ++ rest → LabelsOnce rest
+pub labels_once_from : (all : List Instruction) → AreInstructions all → DefinesOnce all → (before rest : List Instruction) → all ≡ before ++ rest → LabelsOnce rest
 labels_once_from all each once before [] e = tt
 labels_once_from all each once before (i ∷ is) e = (
   (λ h. later_labels all each once (before ++ i ∷ []) is (e ∙ sym (append_push before i is)) (word i 1)

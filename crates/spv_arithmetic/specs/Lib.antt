@@ -1,0 +1,4 @@
+pub mod Broken
+pub mod Forms
+pub mod Operands
+pub mod Results

@@ -1,0 +1,4 @@
+pub mod Leasts
+pub mod Begun
+pub mod Refusals
+pub mod Steps

@@ -1,0 +1,4 @@
+pub mod Calls
+pub mod Interfaces
+pub mod Broken
+pub mod Kept

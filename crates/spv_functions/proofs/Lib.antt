@@ -1,0 +1,3 @@
+pub mod PointerTypes
+pub mod Declared
+pub mod Answering

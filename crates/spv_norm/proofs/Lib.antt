@@ -1,0 +1,4 @@
+pub mod FunctionLines
+pub mod Naming
+pub mod NormalModules
+pub mod Stepwise

@@ -1,0 +1,3 @@
+pub mod Norm
+pub mod Bodies
+pub mod Laws

@@ -1,0 +1,10 @@
+pub mod SameTrees
+pub mod StandAlike
+pub mod Outside
+pub mod Inner
+pub mod Cut
+pub mod InOrder
+pub mod Saying
+pub mod TreeLabels
+pub mod Whole
+pub mod SmallModule

@@ -1,0 +1,17 @@
+pub mod OwnLines
+pub mod ListedTexts
+pub mod ReadFronts
+pub mod Apart
+pub mod Respelled
+pub mod Normals
+pub mod Whole
+pub mod EachLine
+pub mod Inside
+pub mod SpelledSteps
+pub mod Lengths
+pub mod Admitted
+pub mod SmallTrees
+pub mod Onwards
+pub mod SameTree
+pub mod Reading
+pub mod Taking

@@ -1,0 +1,3 @@
+pub mod Normal
+pub mod Laws
+pub mod Facts

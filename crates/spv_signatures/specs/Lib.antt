@@ -1,0 +1,5 @@
+pub mod Broken
+pub mod Calls
+pub mod Contexts
+pub mod Functions
+pub mod Rows

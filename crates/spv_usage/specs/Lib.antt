@@ -1,0 +1,4 @@
+pub mod Broken
+pub mod Orderings
+pub mod Stages
+pub mod Storage
