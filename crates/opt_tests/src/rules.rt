@@ -20,7 +20,19 @@ fn rule_name(rule: u32) -> &'static str {
         307 => "BadLayout",
         308 => "BadGlobal",
         309 => "TypeDepth",
-        _ => "NotYet",
+        401 => "NoTerminator",
+        402 => "BadTarget",
+        406 => "BadPhi",
+        501 => "OperandType",
+        503 => "NotAvailable",
+        504 => "StorageUse",
+        506 => "CallShape",
+        507 => "ReturnType",
+        602 => "Interface",
+        603 => "Binding",
+        605 => "LocalSize",
+        606 => "EntryFunction",
+        _ => "unknown",
     }
 }
 
@@ -118,8 +130,8 @@ fn ids_and_types_are_looked_at(rt: HostRuntime) -> Result<(), Fail> {
         &[302, 105, 105, 0, 3, 0x03001e, 22, 22],
         // an operand that nothing defines
         &[302, 131, 134, 1, 1, 63],
-        // an operand that is its own result
-        &[0, 0, 134, 1, 1, 21],
+        // an operand that is its own result: it is defined, and not available
+        &[503, 131, 134, 1, 1, 21],
         // an integer of 16 bits
         &[303, 59, 61, 1, 1, 16],
         // a third signedness
@@ -513,36 +525,131 @@ fn decorations_and_global_variables_are_looked_at(rt: HostRuntime) -> Result<(),
 }
 
 #[test]
-fn the_form_is_looked_at_last(rt: HostRuntime) -> Result<(), Fail> {
-    let cases: [&[u32]; 12] = [
-        // a second label
-        &[190, 140, 140, 0, 3, 0x0200f8, 22, 0x0100fd],
-        // OpReturnValue
-        &[190, 139, 139, 1, 2, 0x0200fe, 21],
-        // OpUnreachable
-        &[190, 139, 139, 1, 1, 0x0100ff],
-        // OpBranch
-        &[190, 139, 139, 1, 2, 0x0200f9, 16],
-        // OpPhi
-        &[190, 131, 131, 1, 1, 0x0500f5],
-        // OpFunctionCall
-        &[190, 131, 131, 1, 1, 0x050039],
-        // a second function
+fn functions_are_looked_at(rt: HostRuntime) -> Result<(), Fail> {
+    let cases: [&[u32]; 14] = [
+        // no terminator
+        &[401, 139, 139, 1, 0],
+        // a second label, which nothing branches to
+        &[402, 140, 140, 0, 3, 0x0200f8, 22, 0x0100fd],
+        // a branch to the first block
+        &[402, 139, 139, 1, 2, 0x0200f9, 16],
+        // OpPhi in the first block
+        &[406, 131, 131, 1, 1, 0x0500f5],
+        // the same behind OpReturnValue, which is looked at later
         &[
-            190, 141, 141, 0, 9, 0x050036, 6, 22, 0, 7, 0x0200f8, 23, 0x0100fd, 0x010038,
+            402, 141, 139, 1, 2, 0x0200fe, 21, 140, 0, 3, 0x0200f8, 22, 0x0100fd,
         ],
-        // no function
-        &[190, 109, 105, 36, 4, 0x04002b, 8, 1, 0],
+        // a product of a pointer
+        &[501, 131, 134, 1, 1, 2],
+        // a store to an input
+        &[504, 136, 137, 1, 1, 17],
+        // a call of a number
+        &[506, 131, 131, 1, 1, 0x050039],
+        // OpReturnValue
+        &[507, 139, 139, 1, 2, 0x0200fe, 21],
         // OpPhi before an id that nothing defines
         &[302, 136, 131, 1, 1, 0x0500f5, 138, 1, 1, 22],
         // a sum
         &[0, 0, 131, 1, 1, 0x050080],
+        // OpUnreachable
+        &[0, 0, 139, 1, 1, 0x0100ff],
         // OpNoLine
         &[0, 0, 139, 0, 1, 0x01013d],
+        // a second function
+        &[
+            0, 0, 141, 0, 9, 0x050036, 6, 22, 0, 7, 0x0200f8, 23, 0x0100fd, 0x010038,
+        ],
+    ];
+    assert_eq!(rt; first_wrong(rt.alloc(), &cases)?, None);
+    Ok(())
+}
+
+#[test]
+fn entry_points_and_bindings_are_looked_at_last(rt: HostRuntime) -> Result<(), Fail> {
+    let cases: [&[u32]; 6] = [
+        // a buffer that the entry point does not list
+        &[602, 10, 10, 7, 6, 0x06000f, 5, 1, 0x6e69616d, 0, 2],
+        // the same, and OpReturnValue
+        &[
+            507, 138, 10, 7, 6, 0x06000f, 5, 1, 0x6e69616d, 0, 2, 139, 1, 2, 0x0200fe, 21,
+        ],
+        // no binding
+        &[603, 97, 38, 4, 0],
+        // a size of 0
+        &[605, 10, 20, 1, 1, 0],
+        // no function
+        &[606, 10, 105, 36, 4, 0x04002b, 8, 1, 0],
         // the shader
         &[0, 0],
     ];
     assert_eq!(rt; first_wrong(rt.alloc(), &cases)?, None);
+    Ok(())
+}
+
+/// Whether the words of a module are written so.
+fn is_written(alloc: Global, words: &[u32], expected: &[u32]) -> Result<bool, Fail> {
+    let input = encoded(alloc, words, false)?;
+    let mut memory = with_input(alloc, 1000, input.as_slice())?;
+    let output = encoded(alloc, expected, false)?;
+    Ok(ends(alloc, &mut memory, 0, "")? && memory.written() == output.as_slice())
+}
+
+#[test]
+fn control_flow_is_written_in_its_normal_form(rt: HostRuntime) -> Result<(), Fail> {
+    // A selection, whose merge block %24 stands first. Its arm %25 leads to %26, which is joined with it and has a name.
+    // What is written is in order, without the names, the source and %26, under the bound 26.
+    let words = edited(
+        rt.alloc(),
+        &[
+            30, 0, 3, 0x030005, 26, 0x61, 105, 0, 5, 0x020014, 22, 0x030029, 22, 23, 139, 1, 18,
+            0x0300f7, 24, 0, 0x0400fa, 23, 25, 24, 0x0200f8, 24, 0x0100fd, 0x0200f8, 26, 0x0200f9,
+            24, 0x0200f8, 25, 0x0200f9, 26,
+        ],
+    )?;
+    let expected = edited(
+        rt.alloc(),
+        &[
+            3, 1, 1, 26, 23, 7, 0, 105, 0, 5, 0x020014, 22, 0x030029, 22, 23, 139, 1, 14, 0x0300f7,
+            24, 0, 0x0400fa, 23, 25, 24, 0x0200f8, 25, 0x0200f9, 24, 0x0200f8, 24, 0x0100fd,
+        ],
+    )?;
+    assert!(rt; is_written(rt.alloc(), words.as_slice(), expected.as_slice())?);
+    // It is written again as it is.
+    assert!(rt; is_written(rt.alloc(), expected.as_slice(), expected.as_slice())?);
+    Ok(())
+}
+
+/// Edits that put so many selections into each other before the shader returns.
+fn selections(alloc: Global, depth: u32) -> Result<Vec<u32>, Fail> {
+    let count = depth.saturating_mul(13).saturating_add(1);
+    let mut edits = Vec::new(alloc);
+    edits.extend_from_slice(&[105, 0, 5, 0x020014, 22, 0x030029, 22, 23, 139, 1, count])?;
+    let mut merge: u32 = 0x40;
+    'openings: for _ in 0..depth {
+        let arm = merge.saturating_add(1);
+        edits.extend_from_slice(&[0x0300f7, merge, 0, 0x0400fa, 23, arm, merge, 0x0200f8, arm])?;
+        merge = merge.saturating_add(2);
+    }
+    'endings: for _ in 0..depth {
+        merge = merge.saturating_sub(2);
+        edits.extend_from_slice(&[0x0200f9, merge, 0x0200f8, merge])?;
+    }
+    edits.push(0x0100fd)?;
+    Ok(edits)
+}
+
+#[test]
+fn constructs_nest_255_deep(rt: HostRuntime) -> Result<(), Fail> {
+    for (depth, number, message) in [(255, 0, ""), (256, 5, "error: limit 901\n")] {
+        let edits = selections(rt.alloc(), depth)?;
+        let words = edited(rt.alloc(), edits.as_slice())?;
+        let input = encoded(rt.alloc(), words.as_slice(), false)?;
+        let mut memory = with_input(rt.alloc(), 1000, input.as_slice())?;
+        assert!(rt;
+            ends(rt.alloc(), &mut memory, number, message)?,
+            "{depth} selections"
+        );
+    }
     Ok(())
 }
 

@@ -5,3 +5,5 @@ pub mod Answering
 pub mod Bounds
 pub mod Meaning
 pub mod Stopping
+pub mod Completing
+pub mod OneAnswer

@@ -4,12 +4,33 @@ use Rattle.std.specs.Option.{option_map}
 use Rattle.opt_outside.specs.Seen.{Seen, Rises}
 use Rattle.opt_top.specs.declared.status.Status.{Status}
 use Rattle.opt_top.specs.declared.status.Status.TheVariants.{Done, Refused, Usage, ReadFault, WriteFault, Limit, NoMemory}
-use Rattle.opt_top.specs.Ends.{Stops, Told, Ends}
+use Rattle.opt_top.specs.Ends.{EndsLimited, Stops, Told, Ends}
 use Rattle.opt_top.specs.Job.{FileJob}
 use Rattle.opt_top.specs.Status.{message_of}
 
 abbrev with_told : Option (List ℕ) → ℕ → Seen → Seen
 with_told t f s = record s { told = t; tell_faults = f }
+
+limited_told : (job : FileJob) (number : ℕ) (old mid : Seen) (t : Option (List ℕ)) (f : ℕ) → EndsLimited job number old mid → EndsLimited job number old (with_told t f mid)
+limited_told job number old mid t f (inl h) = inl (
+  h.0,
+  record {
+    bytes = h.1.bytes;
+    input = record { front = h.1.input.front; most = h.1.input.most; whole = h.1.input.whole };
+    others = ap {A = Seen} (with_told t f) h.1.others;
+    long = h.1.long;
+  },
+)
+limited_told job number old mid t f (inr h) = inr (
+  h.0,
+  record {
+    bytes = h.1.bytes;
+    input = record { front = h.1.input.front; most = h.1.input.most; whole = h.1.input.whole };
+    others = ap {A = Seen} (with_told t f) h.1.others;
+    short = h.1.short;
+    nested = h.1.nested;
+  },
+)
 
 -- whatever is told afterwards, a run stopped as it did
 stops_told : (job : Option FileJob) (status : Status) (old mid : Seen) (t : Option (List ℕ)) (f : ℕ) → Stops job status old mid → Stops job status old (with_told t f mid)
@@ -36,7 +57,7 @@ stops_told (Some job) WriteFault old mid t f h = record {
   front = h.front;
   cause = h.cause;
 }
-stops_told (Some job) (Limit number) old mid t f h = (h.0, record { bytes = h.1.bytes; input = record { front = h.1.input.front; most = h.1.input.most; whole = h.1.input.whole }; others = ap {A = Seen} (with_told t f) h.1.others; long = h.1.long })
+stops_told (Some job) (Limit number) old mid t f h = limited_told job number old mid t f h
 stops_told (Some job) NoMemory old mid t f h = record { others = ap {A = Seen} (with_told t f) h.others; taken = h.taken }
 
 told_since : (text : List ℕ) (old mid new : Seen) → mid.told ≡ old.told → mid.tell_faults ≡ old.tell_faults → Told text mid new → Told text old new

@@ -1,15 +1,12 @@
 -- What the optimiser makes of the bytes of its input.
-use Rattle.std.specs.Prelude.{◌≡◌, ℕ, List, length, Option, Some, None, Result, Ok, Err, ⊤}
+use Rattle.std.specs.Prelude.{◌≡◌, ℕ, List, Result, Ok, Err, ⊤}
+use Rattle.spv_admission.specs.Admission.{IsInProfile, IsRefused, IsTooNested}
 use Rattle.spv_base.specs.declared.fault.Fault.{Fault}
 use Rattle.spv_base.specs.declared.fault.Fault.TheVariants as faults
 use Rattle.spv_base.specs.declared.fault.Refusal.{Refusal}
-use Rattle.spv_declarations.specs.Broken.{group_3}
-use Rattle.spv_form.specs.Bound.{bound_of_ids}
-use Rattle.spv_form.specs.OneBlock.{first_outside}
+use Rattle.spv_bound.specs.Bound.{bound_of_ids}
 use Rattle.spv_module.specs.Code.{Code, code_of, spelling}
-use Rattle.spv_module.specs.Decode.{first_in_decode}
-use Rattle.spv_module.specs.First.{first, first_group}
-use Rattle.spv_module.specs.Instruction.{Instruction}
+use Rattle.spv_norm.specs.Norm.{IsNorm}
 use Rattle.spv_words.specs.declared.fault.WordsFault.{WordsFault}
 use Rattle.spv_words.specs.declared.fault.WordsFault.TheVariants.{ShortInput, OddLength, NotSpirv, NoMemory}
 use Rattle.spv_words.specs.Words.{words_in, bytes_of_words}
@@ -32,44 +29,55 @@ stripped code = record {
   insts = stripped_insts code.insts;
 }
 
--- the first broken rule of the lowest group that has one: 101 to 109 and 201 to 205, then 301 to 309; where there is none, 190 NotYet at the first
--- place that is not of the one-block form
-abbrev pub first_in_module : List ℕ → List Instruction → Option Refusal
-first_in_module words insts = first_group (first_in_decode words) (first_group (first (group_3 insts)) (first_outside (length words) insts))
+-- The bytes are words that the profile admits.
+pub record InProfile (bytes : List ℕ) : Type 0 where
+  pub words : List ℕ
+  pub read : words_in bytes ≡ Ok words
+  pub admitted : IsInProfile words
 
--- the module that words spell, where no rule is broken
-abbrev pub in_rules : Option Refusal → List ℕ → Result Code Refusal
-in_rules (Some refusal) words = Err refusal
-in_rules None words = Ok (code_of words)
+-- The bytes are words of which a function nests too deep, and no rule up to those on control flow is broken.
+pub record TooNested (bytes : List ℕ) : Type 0 where
+  pub words : List ℕ
+  pub read : words_in bytes ≡ Ok words
+  pub nested : IsTooNested words
 
-abbrev pub of_words : Result (List ℕ) WordsFault → Result Code Refusal
-of_words (Err fault) = Err (at 0 (byte_rule fault))
-of_words (Ok words) = in_rules (first_in_module words (code_of words).insts) words
+-- the rule that the bytes break, or else the first one that their words break
+abbrev pub BreaksFirst : Result (List ℕ) WordsFault → Refusal → Type 0
+BreaksFirst (Err fault) refusal = refusal ≡ at 0 (byte_rule fault)
+BreaksFirst (Ok words) refusal = IsRefused words refusal
 
-unfoldable pub module_in : List ℕ → Result Code Refusal
-module_in bytes = of_words (words_in bytes)
+-- The bytes are words that the profile admits, and the module is their normal form.
+pub record HasNorm (bytes : List ℕ) (norm : Code) : Type 0 where
+  pub words : List ℕ
+  pub read : words_in bytes ≡ Ok words
+  pub admitted : IsInProfile words
+  pub normal : IsNorm (code_of words) norm
 
--- the bytes to be written
-abbrev pub written_of : Result Code Refusal → Result (List ℕ) Refusal
-written_of (Err refusal) = Err refusal
-written_of (Ok code) = Ok (bytes_of_words (spelling (stripped code)))
+-- The output is the spelling of the normal form without what says something of its source alone.
+pub record IsOutput (bytes output : List ℕ) : Type 0 where
+  pub norm : Code
+  pub normal : HasNorm bytes norm
+  pub spelled : output ≡ bytes_of_words (spelling (stripped norm))
 
 -- the bytes to be written for an input, or why it is refused
-unfoldable pub answer_of : List ℕ → Result (List ℕ) Refusal
-answer_of bytes = written_of (module_in bytes)
+abbrev pub IsAnswer : (bytes : List ℕ) → Result (List ℕ) Refusal → Type 0
+IsAnswer bytes (Ok output) = IsOutput bytes output
+IsAnswer bytes (Err refusal) = BreaksFirst (words_in bytes) refusal
 
--- what the code answers: these, or that memory was wanting
-abbrev pub Answers : Result (List ℕ) Refusal → Result (List ℕ) Fault → Type 0
-Answers expected (Ok bytes) = expected ≡ Ok bytes
-Answers expected (Err (faults.Refused refusal)) = expected ≡ Err refusal
-Answers expected (Err faults.Nesting) = ⊥
-Answers expected (Err faults.NoMemory) = ⊤
+-- why the code makes nothing of an input; want of memory is free
+abbrev pub Fails : (bytes : List ℕ) → Fault → Type 0
+Fails bytes (faults.Refused refusal) = IsAnswer bytes (Err refusal)
+Fails bytes faults.Nesting = TooNested bytes
+Fails bytes faults.NoMemory = ⊤
 
-abbrev pub AnswersModule : Result Code Refusal → Result Code Fault → Type 0
-AnswersModule expected (Ok code) = expected ≡ Ok code
-AnswersModule expected (Err (faults.Refused refusal)) = expected ≡ Err refusal
-AnswersModule expected (Err faults.Nesting) = ⊥
-AnswersModule expected (Err faults.NoMemory) = ⊤
+-- what the code answers
+abbrev pub Answers : (bytes : List ℕ) → Result (List ℕ) Fault → Type 0
+Answers bytes (Ok output) = IsAnswer bytes (Ok output)
+Answers bytes (Err fault) = Fails bytes fault
+
+abbrev pub AnswersNorm : (bytes : List ℕ) → Result Code Fault → Type 0
+AnswersNorm bytes (Ok norm) = HasNorm bytes norm
+AnswersNorm bytes (Err fault) = Fails bytes fault
 
 -- the fault of bytes that break a rule
 abbrev pub ByteFault : WordsFault → Fault → Type 0

@@ -6,7 +6,7 @@ use Rattle.opt_top.specs.declared.status.Status.{Status}
 use Rattle.opt_top.specs.declared.status.Status.TheVariants.{Done, Refused, Usage, ReadFault, WriteFault, Limit, NoMemory}
 use Rattle.opt_top.specs.declared.status.UsageFault.{UsageFault}
 use Rattle.opt_top.specs.declared.status.UsageKind.TheVariants.{NotYet}
-use Rattle.opt_top.specs.Answer.{answer_of}
+use Rattle.opt_top.specs.Answer.{InProfile, IsAnswer, TooNested}
 use Rattle.opt_top.specs.Job.{FileJob}
 use Rattle.opt_top.specs.Means.{Means}
 use Rattle.opt_top.specs.Moves.{TakesOf}
@@ -41,13 +41,21 @@ pub record EndsAtLimit (job : FileJob) (old new : Seen) : Type 0 where
   pub others : new ≡ record old { left = new.left; asked = with_name job.input old.asked; told = new.told; tell_faults = new.tell_faults }
   pub long : 4194304 < length bytes
 
+-- A function of the input nests too deep, and no rule up to those on control flow is broken.
+pub record EndsNested (job : FileJob) (old new : Seen) : Type 0 where
+  pub bytes : List ℕ
+  pub input : IsInput job bytes old new
+  pub others : new ≡ record old { left = new.left; asked = with_name job.input old.asked; told = new.told; tell_faults = new.tell_faults }
+  pub short : length bytes ≤ 4194304
+  pub nested : TooNested bytes
+
 -- The input breaks a rule.
 pub record EndsRefused (job : FileJob) (refusal : Refusal) (old new : Seen) : Type 0 where
   pub bytes : List ℕ
   pub input : IsInput job bytes old new
   pub others : new ≡ record old { left = new.left; asked = with_name job.input old.asked; told = new.told; tell_faults = new.tell_faults }
   pub short : length bytes ≤ 4194304
-  pub broken : answer_of bytes ≡ Err refusal
+  pub broken : IsAnswer bytes (Err refusal)
 
 -- A fault of writing: the output was not opened, or a front of the bytes to be written was written and some are left.
 pub record EndsAtWriting (job : FileJob) (old new : Seen) : Type 0 where
@@ -64,7 +72,7 @@ pub record EndsAtWriting (job : FileJob) (old new : Seen) : Type 0 where
     tell_faults = new.tell_faults;
   }
   pub short : length bytes ≤ 4194304
-  pub answer : answer_of bytes ≡ Ok output
+  pub answer : IsAnswer bytes (Ok output)
   pub names : MayAsk job.output (with_name job.input old.asked) new.asked
   pub opening : MayOpen old.opened new.opened
   pub front : (new.written ≡ old.written) ⊎ ((front : List ℕ) × (rest : List ℕ) × (front ++ rest ≡ output) × (0 < length rest) × (new.written ≡ option_map (λ _. front) old.written))
@@ -84,12 +92,16 @@ pub record EndsDone (job : FileJob) (old new : Seen) : Type 0 where
     tell_faults = new.tell_faults;
   }
   pub short : length bytes ≤ 4194304
-  pub answer : answer_of bytes ≡ Ok output
+  pub answer : IsAnswer bytes (Ok output)
   pub means : Means bytes output
 
 -- the one fault of words of a form that is not read yet
 abbrev pub not_yet : UsageFault
 not_yet = record { kind = NotYet; config = 0; place = 0 }
+
+-- which limit was passed
+abbrev pub EndsLimited : FileJob → (number : ℕ) → Seen → Seen → Type 0
+EndsLimited job number old new = ((number ≡ 900) × EndsAtLimit job old new) ⊎ ((number ≡ 901) × EndsNested job old new)
 
 -- what each status says
 abbrev pub Stops : Option FileJob → Status → Seen → Seen → Type 0
@@ -105,7 +117,7 @@ Stops (Some job) (Refused refusal) old new = EndsRefused job refusal old new
 Stops (Some job) (Usage fault) old new = ⊥
 Stops (Some job) ReadFault old new = EndsAtReading job old new
 Stops (Some job) WriteFault old new = EndsAtWriting job old new
-Stops (Some job) (Limit number) old new = (number ≡ 900) × EndsAtLimit job old new
+Stops (Some job) (Limit number) old new = EndsLimited job number old new
 Stops (Some job) NoMemory old new = EndsForMemory job old new
 
 -- a text was told, or a fault of telling stopped it behind a front of it
@@ -133,8 +145,8 @@ pub record Ends (job : Option FileJob) (status : Status) (old new : Seen) : Type
 abbrev pub Rose : ℕ → ℕ → Type 0
 Rose before after = (before < after) ⊎ (after ≡ last_count)
 
--- completeness: a job whose input holds at most the limit's bytes, and is not refused, is done where no fault rose and memory is there
+-- completeness: a job whose input holds at most the limit's bytes, and is in the profile, is done where no fault rose and memory is there
 abbrev pub Completes : Option FileJob → Status → Seen → Seen → Type 0
 Completes job status old new =
-    (file : FileJob) (all output : List ℕ) → job ≡ Some file → old.holds file.input ≡ Some all → length all ≤ 4194304 → answer_of all ≡ Ok output →
+    (file : FileJob) (all : List ℕ) → job ≡ Some file → old.holds file.input ≡ Some all → length all ≤ 4194304 → InProfile all →
     ¬ (Rose old.read_faults new.read_faults) → ¬ (Rose old.write_faults new.write_faults) → (status ≡ Done) ⊎ (status ≡ NoMemory)

@@ -2,6 +2,7 @@ pub mod Answer
 pub mod Ends
 pub mod Job
 pub mod JobSeen
+pub mod Laws
 pub mod Means
 pub mod Moves
 pub mod Status

@@ -1,20 +1,17 @@
-ghost use Rattle.std.specs.Prelude.{◌≡◌, ◌<◌, ◌≤◌, ◌^◌, IfOk, Ok, length, ⊤};
-ghost use Rattle.spv_declarations.specs.Broken.{group_3};
-ghost use Rattle.spv_form.specs.Bound.{bound_of_ids};
-ghost use Rattle.spv_form.specs.OneBlock.{first_outside};
-ghost use Rattle.spv_module.specs.Code.{spelling};
-ghost use Rattle.spv_module.specs.First.{first, first_group};
-ghost use Rattle.spv_module.specs.Layout.{RisesTo};
-ghost use Rattle.spv_types.specs.Whole.{Finds};
+ghost use Rattle.std.specs.Prelude.{◌≡◌, ◌<◌, ◌≤◌, ◌^◌, ℕ, List, IfOk, Ok, length};
+ghost use Rattle.spv_bound.specs.Bound.{bound_of_ids};
+ghost use Rattle.spv_machine.specs.Dispatch.{Dispatch};
+ghost use Rattle.spv_machine.specs.Laws.{MeansSame};
+ghost use Rattle.spv_module.specs.Code.{code_of, spelling};
+ghost use Rattle.spv_norm_means.specs.Laws.{MeansAsMuch};
 ghost use Rattle.spv_words.specs.Words.{bytes_of_words, words_in};
 ghost use Rattle.opt_top.specs.Means.{Means};
-ghost use Rattle.opt_top.specs.Answer.{Answers, AnswersModule, ByteFault, answer_of, module_in, stripped};
+ghost use Rattle.opt_top.specs.Answer.{Answers, AnswersNorm, ByteFault, stripped};
 
 use crate::strip::strip_debug;
+use spv_admission::admit;
 use spv_base::{ByteList, Fault, NoMemory, Refusal, rule};
-use spv_form::outside_form;
-use spv_module::{Flat, decode, encode};
-use spv_types::tables;
+use spv_module::{Flat, encode};
 use spv_words::{WordsFault, bytes_of, words_of};
 use std::alloc::Global;
 
@@ -31,32 +28,28 @@ fn byte_fault(fault: WordsFault) -> Fault
     Fault::Refused(Refusal { rule, at: 0 })
 }
 
-/// Refuses a module that breaks a rule on its declarations, or is not of the one-block form.
-fn check_module(alloc: Global, flat: &Flat, end: u32) -> Result<(), Fault>
-    requires { RisesTo end 5 flat.now.insts }
-    ensures { Finds (first_group (first (group_3 flat.now.insts)) (first_outside end flat.now.insts)) (λ _. ⊤) result }
-{
-    tables(alloc, flat)?;
-    match outside_form(flat, end) {
-        Some(refusal) => Err(Fault::Refused(refusal)),
-        None => Ok(()),
-    }
-}
-
-/// The module in bytes of at most 4,194,304, or why it is refused.
+/// The normal form of the module in bytes of at most 4,194,304, or why it is refused.
 fn read_module(alloc: Global, bytes: &[u8]) -> Result<Flat, Fault>
     requires { length bytes.now ≤ 4194304 }
-    ensures answer { AnswersModule (module_in bytes.now) result }
-    ensures bound { IfOk result (λ code. bound_of_ids code.insts < 2 ^ 32) }
+    ensures answer { AnswersNorm bytes.now result }
+    ensures means { IfOk result (λ norm. (words : List ℕ) → words_in bytes.now ≡ Ok words → MeansAsMuch (code_of words) norm) }
+    ensures bound { IfOk result (λ norm. bound_of_ids norm.insts < 2 ^ 32) }
 {
     let words = match words_of(alloc, bytes) {
         Ok(words) => words,
         Err(fault) => return Err(byte_fault(fault)),
     };
-    let words = words.as_slice();
-    let flat = decode(alloc, words)?;
-    check_module(alloc, &flat, words.len() as u32)?;
-    Ok(flat)
+    let norm = admit(alloc, words.as_slice())?;
+    let _bound = norm.header().bound;
+    Ok(norm)
+}
+
+/// Says that a module means the same without what says something of its source alone, written and read again. Does
+/// nothing.
+fn stripped_means_same(flat: &Flat)
+    ensures { (d : Dispatch) → MeansSame flat.now (code_of (spelling (stripped flat.now))) d }
+{
+    flat.insts().each_is_instruction();
 }
 
 /// The bytes of a module without what says something of its source alone.
@@ -73,9 +66,10 @@ fn write_module(alloc: Global, flat: &Flat) -> Result<ByteList, NoMemory>
 /// The bytes to be written for an input of at most 4,194,304 bytes, or why it is refused.
 pub fn answer(alloc: Global, bytes: &[u8]) -> Result<ByteList, Fault>
     requires { length bytes.now ≤ 4194304 }
-    ensures answer { Answers (answer_of bytes.now) result }
+    ensures answer { Answers bytes.now result }
     ensures means { IfOk result (λ output. Means bytes.now output) }
 {
-    let flat = read_module(alloc, bytes)?;
-    Ok(write_module(alloc, &flat)?)
+    let norm = read_module(alloc, bytes)?;
+    stripped_means_same(&norm);
+    Ok(write_module(alloc, &norm)?)
 }

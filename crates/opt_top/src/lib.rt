@@ -3,6 +3,7 @@
 
 mod answer;
 mod job;
+mod laws;
 mod message;
 mod reading;
 pub mod run;
@@ -10,5 +11,6 @@ pub mod status;
 mod strip;
 mod writing;
 
+pub use laws::answer_law;
 pub use run::opt;
 pub use status::{Status, UsageFault, UsageKind};

@@ -1,6 +1,7 @@
 ghost use Rattle.std.specs.Prelude.{◌≡◌, ◌+◌, ◌++◌, ◌≤◌, OnOk, OnErr, codes, decimal, length};
 ghost use Rattle.opt_top.specs.Moves.{Tellings, FaultsTelling};
-ghost use Rattle.opt_top.specs.Status.{rule_text as text_of_rule, message_of, number_line, refusal_line};
+ghost use Rattle.opt_top.specs.Status.{early_text as text_of_early, late_text as text_of_late, rule_text as text_of_rule};
+ghost use Rattle.opt_top.specs.Status.{message_of, number_line, refusal_line};
 ghost use Rattle.opt_top.specs.Ends.{Told};
 
 use crate::status::Status;
@@ -8,14 +9,28 @@ use crate::writing::tell_all;
 use arrayvec::ArrayString;
 use itoa::Buffer;
 use opt_outside::{Failed, Outside};
+use spv_availability::rule as availability;
 use spv_base::{Refusal, rule};
+use spv_calls::rule as calls;
+use spv_entries::rule as entries;
+use spv_exits::rule as exits;
+use spv_faults::rule as control;
+use spv_signatures::rule as signatures;
+use spv_usage::rule as usage;
+use spv_values::rule as values;
 
 /// The most bytes of a message.
 const MOST_BYTES: usize = 64;
 
-/// A rule's three digits and its name.
-fn rule_text(rule: u16) -> &'static str
-    ensures text { result.now ≡ text_of_rule rule }
+/// The rules from here on are on control flow, on the instructions of functions and on the whole module.
+const LATE: u16 = 400;
+
+/// A branch leads from one case of a switch into another.
+const CASE_FALL: u16 = 404;
+
+/// The name of a rule on bytes, instructions, layout or declarations, behind its three digits.
+fn early_text(rule: u16) -> &'static str
+    ensures text { result.now ≡ text_of_early rule }
     ensures short { length result.now ≤ 23 }
 {
     match rule {
@@ -31,7 +46,6 @@ fn rule_text(rule: u16) -> &'static str
         rule::OPERAND_COUNT => "107 OperandCount",
         rule::BAD_STRING => "108 BadString",
         rule::BAD_ENUMERANT => "109 BadEnumerant",
-        rule::NOT_YET => "190 NotYet",
         rule::LAYOUT_ORDER => "201 LayoutOrder",
         rule::MISSING_CAPABILITY => "202 MissingCapability",
         rule::MISSING_MEMORY_MODEL => "203 MissingMemoryModel",
@@ -47,6 +61,51 @@ fn rule_text(rule: u16) -> &'static str
         rule::BAD_GLOBAL => "308 BadGlobal",
         rule::TYPE_DEPTH => "309 TypeDepth",
         _ => "",
+    }
+}
+
+/// The name of a rule on control flow, on the instructions of functions or on the whole module, behind its three digits.
+fn late_text(rule: u16) -> &'static str
+    ensures text { result.now ≡ text_of_late rule }
+    ensures short { length result.now ≤ 23 }
+{
+    match rule {
+        control::NO_TERMINATOR => "401 NoTerminator",
+        control::BAD_TARGET => "402 BadTarget",
+        control::BAD_MERGE => "403 BadMerge",
+        CASE_FALL => "404 CaseFall",
+        control::BAD_CONTINUE => "405 BadContinue",
+        control::BAD_PHI => "406 BadPhi",
+        control::BARE_BRANCH => "407 BareBranch",
+        control::SAME_TARGETS => "408 SameLabels",
+        control::HEADER_SPLIT => "410 HeaderSplit",
+        values::OPERAND_TYPE => "501 OperandType",
+        values::RESULT_TYPE => "502 ResultType",
+        availability::NOT_AVAILABLE => "503 NotAvailable",
+        usage::STORAGE_USE => "504 StorageUse",
+        usage::SCOPE_OR_SEMANTICS => "505 ScopeOrSemantics",
+        signatures::CALL_SHAPE => "506 CallShape",
+        signatures::RETURN_TYPE => "507 ReturnType",
+        calls::CALL_CYCLE => "601 CallCycle",
+        calls::INTERFACE => "602 Interface",
+        entries::BINDING => "603 Binding",
+        entries::ENTRY_NAME => "604 EntryName",
+        entries::LOCAL_SIZE => "605 LocalSize",
+        entries::ENTRY_FUNCTION => "606 EntryFunction",
+        exits::MANY_EXITS => "607 ManyExits",
+        _ => "",
+    }
+}
+
+/// A rule's three digits and its name.
+fn rule_text(rule: u16) -> &'static str
+    ensures text { result.now ≡ text_of_rule rule }
+    ensures short { length result.now ≤ 23 }
+{
+    if rule < LATE {
+        early_text(rule)
+    } else {
+        late_text(rule)
     }
 }
 

@@ -16,6 +16,9 @@ use std::rc::RcStr;
 /// The limit on the bytes of a file.
 const TOO_LONG: u32 = 900;
 
+/// The limit on how deep constructs of a function nest.
+const NESTING: u32 = 901;
+
 /// Runs the job that the words of a command give, and tells nothing of it.
 fn run<O: Outside>(alloc: Global, words: &[RcStr], out: &mut O) -> Status
     ensures stops { Stops (job_in (texts words.now)) result (O.seen out.old) (O.seen out.new) }
@@ -40,7 +43,7 @@ fn run<O: Outside>(alloc: Global, words: &[RcStr], out: &mut O) -> Status
     let output = match answer(alloc, &bytes) {
         Ok(output) => output,
         Err(Fault::Refused(refusal)) => return Status::Refused(refusal),
-        Err(Fault::Nesting) => unreachable!(),
+        Err(Fault::Nesting) => return Status::Limit(NESTING),
         Err(Fault::NoMemory) => return Status::NoMemory,
     };
     match write_output(job.output, output.as_slice(), out) {

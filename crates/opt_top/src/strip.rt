@@ -1,11 +1,11 @@
 ghost use Rattle.std.specs.Prelude.{◌≡◌, ◌<◌, ◌^◌, IfOk};
-ghost use Rattle.spv_form.specs.Bound.{bound_of_ids};
+ghost use Rattle.spv_bound.specs.Bound.{bound_of_ids};
 ghost use Rattle.opt_top.specs.Answer.{stripped};
 ghost use Rattle.spv_module.specs.View.{seen};
 ghost use Rattle.opt_top.specs.Strip.{stays as stays_in, stripped_insts};
 
 use spv_base::{Header, NoMemory};
-use spv_form::bound_of;
+use spv_bound::bound_of;
 use spv_module::layout::is_line;
 use spv_module::{Flat, InstList, View};
 use spv_opcodes::op;

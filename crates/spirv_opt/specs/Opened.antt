@@ -1,5 +1,5 @@
 -- Reading from an input, and writing to an output, that may not be open.
-use Rattle.std.specs.Prelude.{◌≡◌, ℕ, List, Bool, not, nat_eq, codes, Option, None, Some, Result, IsErr}
+use Rattle.std.specs.Prelude.{ℕ, List, Bool, not, nat_eq, codes, Option, None, Some, Result, IsErr}
 use Rattle.std.specs.Cmp.Lexicographic.{pointwise}
 use Rattle.std.specs.Io.KnownBytes.{ReadConsumes, WriteAppends}
 

@@ -10,6 +10,3 @@ pub use forms::Form;
 pub use operands::operands_fit;
 pub use results::result_fits;
 pub use rules::broken_arithmetic_rule;
-
-#[cfg(test)]
-mod tests;

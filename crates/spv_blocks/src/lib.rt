@@ -15,6 +15,3 @@ pub use edges::Edges;
 pub use function::Function;
 pub use insts::{Insts, starts};
 pub use labels::Labels;
-
-#[cfg(test)]
-mod tests;

@@ -10,6 +10,3 @@ pub use first::first_broken;
 pub use least::lesser;
 pub use rules::BodyRules;
 pub use standing::Standing;
-
-#[cfg(test)]
-mod tests;

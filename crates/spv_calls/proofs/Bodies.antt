@@ -11,7 +11,7 @@ use Rattle.spv_grammar.specs.declared.kind.Role.{Role}
 use Rattle.spv_module.specs.Code.{is_function}
 use Rattle.spv_module.specs.Instruction.{Instruction}
 use Rattle.spv_ids.specs.Ids.{is_needed, used_ids}
-use Rattle.spv_calls.specs.Calls.{callee, callees, globals_in, is_global, up_to_function, function_in, function_at}
+use Rattle.spv_calls.specs.Calls.{callee, callees, globals_in, globals_of, up_to_function, function_in, function_at}
 use Rattle.spv_calls.specs.Kept.{kept}
 
 -- ---- the ids of an instruction
@@ -90,7 +90,7 @@ callees-read insts = record { none = refl; cons = λ i is. callees_cons (callee 
 pub globals-read : (insts : List Instruction) → IsReading (globals_in insts)
 globals-read insts = record {
   none = refl;
-  cons = λ i is. ap (λ (xs : List ℕ). xs ++ globals_in insts is) (sym (append-nil (filter (is_global insts) (used_ids i))));
+  cons = λ i is. ap (λ (xs : List ℕ). xs ++ globals_in insts is) (sym (append-nil (globals_of insts i)));
 }
 
 pub goes-on : (read : List Instruction → List ℕ) (insts : List Instruction) (k j : ℕ) (i : Instruction) (old mid new : List ℕ) → IsReading read → Goes read insts k j old mid → j < length insts → slice_get insts j ≡ Some i → is_function i ≡ false → new ≡ mid ++ read (i ∷ []) → Goes read insts k (j + 1) old new

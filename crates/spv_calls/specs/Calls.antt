@@ -4,7 +4,7 @@ use Rattle.std.specs.List.{filter_map, flat_map, range_with_len}
 use Rattle.graph.specs.Reaching.{IsReached}
 use Rattle.graph.specs.Rows.{row}
 use Rattle.spv_opcodes.specs.declared.op.TheConstants as op
-use Rattle.spv_module.specs.Code.{is_function}
+use Rattle.spv_module.specs.Code.{is_function, is_line}
 use Rattle.spv_module.specs.Instruction.{Instruction, opcode}
 use Rattle.spv_ids.specs.Ids.{kind, place_of, used_ids}
 use Rattle.spv_typing.specs.Kinds.{is_outside}
@@ -30,12 +30,15 @@ abbrev pub callee : List Instruction → Instruction → Option ℕ
 callee insts i =
     cond (opcode i == op.FUNCTION_CALL && kind insts (slice_index i.words 3) == op.FUNCTION) (place_of insts (slice_index i.words 3)) None
 
--- the functions that some instructions call, and the global variables that they name
+-- the functions that some instructions call, and the global variables that they name; OpLine names none, whatever its file is
 abbrev pub callees : List Instruction → List Instruction → List ℕ
 callees insts is = filter_map (callee insts) is
 
+abbrev pub globals_of : List Instruction → Instruction → List ℕ
+globals_of insts i = cond (is_line i) [] (filter (is_global insts) (used_ids i))
+
 abbrev pub globals_in : List Instruction → List Instruction → List ℕ
-globals_in insts is = flat_map (λ i. filter (is_global insts) (used_ids i)) is
+globals_in insts is = flat_map (globals_of insts) is
 
 -- those of the function at a place
 abbrev pub calls_at : List Instruction → (k : ℕ) → List ℕ

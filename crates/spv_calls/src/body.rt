@@ -1,8 +1,8 @@
-ghost use Rattle.std.specs.Prelude.{◌≡◌, ◌<◌, ◌&&◌, ◌+◌, ◌++◌, ◌∷◌, [], IfOk, OnOk, Some, cond, length, filter, drop, slice_get};
+ghost use Rattle.std.specs.Prelude.{◌≡◌, ◌<◌, ◌&&◌, ◌+◌, ◌++◌, ◌∷◌, [], IfOk, OnOk, Some, cond, length, drop, slice_get};
 ghost use Rattle.std.specs.List.{zip};
 ghost use Rattle.spv_module.specs.View.{seen};
-ghost use Rattle.spv_ids.specs.Ids.{is_needed as needed, used_ids};
-ghost use Rattle.spv_calls.specs.Calls.{is_global, callees, calls_at, globals_at, globals_in, function_at, up_to_function};
+ghost use Rattle.spv_ids.specs.Ids.{is_needed as needed};
+ghost use Rattle.spv_calls.specs.Calls.{is_global, callees, calls_at, globals_at, globals_in, globals_of, function_at, up_to_function};
 ghost use Rattle.spv_calls.specs.Kept.{kept};
 
 use crate::globals::{Globals, is_function};
@@ -10,6 +10,7 @@ use graph::Places;
 use spv_base::{NoMemory, Words};
 use spv_grammar::kind::Role;
 use spv_module::View;
+use spv_module::layout::is_line;
 use std::alloc::Global;
 
 /// What the instructions of a function call and name.
@@ -62,10 +63,13 @@ fn add_named(
     Ok(())
 }
 
-/// Adds the global variables that an instruction names.
+/// Adds the global variables that an instruction names. A line mark names none.
 fn add_globals(ids: &mut Words, globals: &Globals, inst: &View) -> Result<(), NoMemory>
-    ensures { OnOk result (ids.new ≡ ids.old ++ filter (is_global globals.now) (used_ids (seen inst.now))) }
+    ensures { OnOk result (ids.new ≡ ids.old ++ globals_of globals.now (seen inst.now)) }
 {
+    if is_line(inst) {
+        return Ok(());
+    }
     add_named(ids, globals, inst.roles(), inst.words)
 }
 

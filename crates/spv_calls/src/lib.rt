@@ -17,6 +17,3 @@ pub use calls::Calls;
 pub use first::first_broken;
 pub use search::Search;
 pub use spv_entries::Entries;
-
-#[cfg(test)]
-mod tests;

@@ -14,8 +14,3 @@ pub mod vectors;
 pub use forms::Forms;
 pub use laws::{lengths_law, matches_law};
 pub use rules::{broken_composite_rule, operands_fit, result_fits};
-
-#[cfg(test)]
-mod memory_tests;
-#[cfg(test)]
-mod tests;

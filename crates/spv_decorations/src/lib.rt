@@ -9,6 +9,3 @@ pub mod targets;
 pub use decorations::Decorations;
 pub use globals::global_fits;
 pub use targets::decoration_fits;
-
-#[cfg(test)]
-mod tests;

@@ -13,6 +13,3 @@ pub mod uses;
 pub use draft::Draft;
 pub use fresh::IdFault;
 pub use uses::Uses;
-
-#[cfg(test)]
-mod tests;

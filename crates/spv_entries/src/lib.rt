@@ -10,6 +10,3 @@ pub mod naming;
 pub mod rule;
 
 pub use entries::Entries;
-
-#[cfg(test)]
-mod tests;

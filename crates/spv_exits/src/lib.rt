@@ -8,6 +8,3 @@ pub mod rule;
 
 pub use crowding::first_crowded;
 pub use nesting::{add_nested, nested_returns};
-
-#[cfg(test)]
-mod tests;

@@ -19,6 +19,3 @@ pub use opens::open_fault;
 pub use parents::parents_of;
 pub use phis::phi_fault;
 pub use refusals::earlier;
-
-#[cfg(test)]
-mod tests;

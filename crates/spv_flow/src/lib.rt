@@ -9,6 +9,3 @@ mod owning;
 pub use flows::{Flow, first_broken};
 pub use owning::has_own_labels;
 pub use spv_base::{NoMemory, Refusal};
-
-#[cfg(test)]
-mod tests;

@@ -6,6 +6,3 @@ mod operations;
 
 pub use operands::{component, of_word, of_words, with_component, zeros};
 pub use operations::{evaluate, shuffle};
-
-#[cfg(test)]
-mod tests;

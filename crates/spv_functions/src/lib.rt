@@ -8,6 +8,3 @@ mod trees;
 pub use functions::Functions;
 pub use kinds::pointers;
 pub use trees::{normalize, parse};
-
-#[cfg(test)]
-mod tests;

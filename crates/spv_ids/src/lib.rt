@@ -9,6 +9,3 @@ pub mod words;
 pub use definitions::Definitions;
 pub use rules::broken_id_rule;
 pub use words::{word, words_from};
-
-#[cfg(test)]
-mod tests;

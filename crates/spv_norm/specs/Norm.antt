@@ -8,7 +8,7 @@ use Rattle.spv_module.specs.Code.{Code, is_function, is_line}
 use Rattle.spv_module.specs.Instruction.{Instruction, opcode}
 use Rattle.spv_ids.specs.Ids.{kind, used_ids}
 use Rattle.spv_typing.specs.Kinds.{is_one_of}
-use Rattle.spv_form.specs.Bound.{bound_of_ids}
+use Rattle.spv_bound.specs.Bound.{bound_of_ids}
 use Rattle.spv_blocks.specs.Cutting.{function_insts}
 use Rattle.spv_tree.specs.Tree.{words_of}
 use Rattle.spv_normal.specs.Normal.{normal_function}

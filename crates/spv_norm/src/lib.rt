@@ -8,6 +8,3 @@ mod staying;
 
 pub use laws::norm_law;
 pub use normalizing::norm;
-
-#[cfg(test)]
-mod tests;

@@ -1,13 +1,13 @@
 ghost use Rattle.std.specs.Prelude.{◌≡◌, ◌++◌, IfOk, OnOk};
 ghost use Rattle.spv_tree.specs.Tree.{words_of};
-ghost use Rattle.spv_form.specs.Bound.{bound_of_ids};
+ghost use Rattle.spv_bound.specs.Bound.{bound_of_ids};
 ghost use Rattle.spv_norm.specs.Norm.{IsNorm, function_lines};
 ghost use Rattle.spv_norm.specs.Bodies.{AreTrees};
 
 use crate::label_set::labels;
 use crate::staying::staying_outside;
 use spv_base::{Header, NoMemory};
-use spv_form::bound::bound_of;
+use spv_bound::bound_of;
 use spv_ids::Definitions;
 use spv_module::{Flat, InstList};
 use spv_tree::{Body, flatten};

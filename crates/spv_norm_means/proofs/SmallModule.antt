@@ -6,7 +6,7 @@ use Rattle.std.specs.Str.{chars, is_utf8}
 use Rattle.spv_words.specs.Words.{bytes_of_words}
 use Rattle.spv_grammar.specs.Operands.{roles_of}
 use Rattle.spv_grammar.specs.Table.{row_of}
-use Rattle.spv_form.specs.Bound.{bound_of_ids}
+use Rattle.spv_bound.specs.Bound.{bound_of_ids}
 use Rattle.spv_module.specs.First.{first}
 use Rattle.spv_module.specs.Instruction.{Instruction, IsInstruction, roles, instruction_rules}
 use Rattle.spv_module.specs.Layout.{group_2, layout_from}

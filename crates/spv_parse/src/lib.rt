@@ -13,6 +13,3 @@ mod ways;
 
 pub use building::build;
 pub use functions::parse_function;
-
-#[cfg(test)]
-mod tests;

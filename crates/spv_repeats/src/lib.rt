@@ -10,6 +10,3 @@ mod words;
 pub use decorations::repeated_decorations;
 pub use marks::Marks;
 pub use types::repeated_types;
-
-#[cfg(test)]
-mod tests;

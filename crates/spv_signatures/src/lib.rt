@@ -18,6 +18,3 @@ pub use parameters::Parameter;
 pub use returns::{result_fits, return_fits};
 pub use rules::broken_signature_rule;
 pub use signatures::Signatures;
-
-#[cfg(test)]
-mod tests;

@@ -16,8 +16,6 @@ pub mod meaning;
 mod meanings;
 mod operands;
 mod rules;
-#[cfg(test)]
-mod tests;
 mod words;
 
 pub use building::tables;

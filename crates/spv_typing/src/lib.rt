@@ -11,6 +11,3 @@ pub use kinds::Kinds;
 pub use operations::spec_op_fits;
 pub use shapes::Shape;
 pub use types::type_fits;
-
-#[cfg(test)]
-mod tests;

@@ -5,4 +5,12 @@ pub mod Sent
 pub mod Back
 pub mod Structured
 pub mod Stands
+pub mod Choices
+pub mod Survey
+pub mod Named
+pub mod Absent
+pub mod Kept
+pub mod Pruning
+pub mod Agreement
 pub mod Samples
+pub mod Unseen

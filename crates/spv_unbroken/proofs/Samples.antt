@@ -6,9 +6,9 @@ use Rattle.std.proofs.lemmas.Bool.{false≢true}
 use Rattle.std.proofs.lemmas.List.Elements.{All-nil, All-cons}
 use Rattle.std.proofs.lemmas.List.Kept.{AllPairs-cons}
 use Rattle.spv_meaning.specs.Statements.{statements_in}
-use Rattle.spv_bodies.specs.Bodies.{Body, Switches, Last}
+use Rattle.spv_bodies.specs.Bodies.{Body}
 use Rattle.spv_bodies.specs.Listing.{Branching, arriving, listed}
-use Rattle.spv_bodies.specs.Facts.{leave, of_body, placed, plain, returns}
+use Rattle.spv_bodies.specs.Facts.{of_body, placed, plain}
 use Rattle.spv_tree.specs.Tree.{words_of}
 use Rattle.spv_tree.specs.Fronts.{CarriesAll, IsShort, IsFilled}
 use Rattle.spv_tree.specs.Sound.{AreAlike, IsSound}
@@ -18,7 +18,7 @@ use Rattle.spv_structured.specs.Laws.{Opens}
 use Rattle.spv_structured.specs.Facts.{Structured, back_twice, body_goes_back, laid, one_target, pointers}
 use Rattle.spv_structured.proofs.Samples.{samples, others, placed_breaks_nothing}
 use Rattle.spv_structured.proofs.Unbroken.{structured_is_unbroken}
-use Rattle.spv_unbroken.specs.Facts.{BreaksNothing, OthersBreakRules, PlacedIsUnbroken, UnnamedArmIsNotSeen, arm_unseen}
+use Rattle.spv_unbroken.specs.Facts.{BreaksNothing, OthersBreakRules, PlacedIsUnbroken, UnnamedArmIsNotSeen, arm_unseen, arm_left_out}
 use Rattle.spv_unbroken.proofs.Structured.{unbroken_is_structured}
 
 placed_opens : Opens (of_body placed)
@@ -38,17 +38,17 @@ placed_is_unbroken = record {
 
 -- ---- sound functions, whose branches carry no values
 
-each_all : {X : Type 0} (P : X → Type 0) (xs : List X) → AllByRecursion P xs → All P xs
+pub each_all : {X : Type 0} (P : X → Type 0) (xs : List X) → AllByRecursion P xs → All P xs
 each_all P [] h = All-nil P
 each_all P (x ∷ xs) h = All-cons P x xs h.0 (each_all P xs h.1)
 
-Arrives : List ℕ → Branching → Type 0
+unfoldable pub Arrives : List ℕ → Branching → Type 0
 Arrives labels branching = Contains labels branching.1.target
 
-Bare : Branching → Type 0
+unfoldable pub Bare : Branching → Type 0
 Bare b = b.1.values ≡ []
 
-all_alike : (bs : List Branching) → AllByRecursion Bare bs → AllPairs AreAlike bs
+pub all_alike : (bs : List Branching) → AllByRecursion Bare bs → AllPairs AreAlike bs
 unfolding Bare
 all_alike [] h = λ i j d x y. absurd (omega (arith, y))
 all_alike (b ∷ bs) h = AllPairs-cons AreAlike b bs (to_each bs h.1) (all_alike bs h.1)
@@ -57,13 +57,13 @@ all_alike (b ∷ bs) h = AllPairs-cons AreAlike b bs (to_each bs h.1) (all_alike
     to_each [] k = All-nil (AreAlike b)
     to_each (c ∷ cs) k = All-cons (AreAlike b) c cs (λ from to. h.0 ∙ sym k.0) (to_each cs k.1)
 
-filled : (all : List Branching) (label : ℕ) → AllByRecursion (CarriesAll 0) (arriving label all) → IsFilled all (plain label)
+pub filled : (all : List Branching) (label : ℕ) → AllByRecursion (CarriesAll 0) (arriving label all) → IsFilled all (plain label)
 filled all label h = record { values = each_all (CarriesAll 0) (arriving label all) h; short = All-nil (IsShort (arriving label all)) }
 
-abbrev to : (block target : ℕ) → Branching
+abbrev pub to : (block target : ℕ) → Branching
 to block target = (block, record { target = target; values = [] })
 
-opens : (body : Body) → Opens (of_body body)
+pub opens : (body : Body) → Opens (of_body body)
 opens body = record { function = refl; parameters = tt }
 
 one_target_sound : IsSound (of_body one_target)
@@ -105,7 +105,7 @@ back_twice_sound =
 
 -- ---- those that are not structured break a rule
 
-laid_words : (at : ℕ) (ls : List (List ℕ)) → words_of (laid at ls) ≡ ls
+pub laid_words : (at : ℕ) (ls : List (List ℕ)) → words_of (laid at ls) ≡ ls
 laid_words at [] = refl
 laid_words at (l ∷ ls) = ap (λ ms. l ∷ ms) (laid_words (at + length l) ls)
 
@@ -123,11 +123,7 @@ others_break_rules = (
 
 -- ---- an arm that is not seen
 
--- the same function without the arm
-abbrev arm_left_out : Body
-arm_left_out = Switches 0 5 [] (Last (leave 7)) (plain 7) (Switches 0 5 [] (Last (leave 8)) (plain 8) returns)
-
-arm_unseen_sound : IsSound (of_body arm_unseen)
+pub arm_unseen_sound : IsSound (of_body arm_unseen)
 unfolding IsDistinct Arrives Bare
 arm_unseen_sound =
     let all : List Branching = to 4 7 ∷ to 4 8 ∷ to 7 8 ∷ [] in

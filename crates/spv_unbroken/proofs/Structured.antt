@@ -1,7 +1,7 @@
 -- A sound function in whose listing no rule on structured control flow is broken is structured: by recursion on its tree, each test of it is told by a rule.
-use Rattle.std.proofs.Common.{◌≡◌, ℕ, ◌≤◌, inl, inr, Bool, true, false, ◌==◌, List, [], ◌∷◌, ◌++◌, length, Option, Some, None, refl, sym, ap, ◌∙◌, subst, arith}
+use Rattle.std.proofs.Common.{◌≡◌, ℕ, ◌≤◌, inl, inr, Bool, true, false, ◌==◌, List, [], ◌∷◌, ◌++◌, length, Some, None, refl, sym, ap, ◌∙◌, subst, arith}
 use Rattle.spv_opcodes.specs.declared.op.TheConstants as op
-use Rattle.spv_blocks.specs.Blocks.{Code, End, Construct, ASwitch, ALoop, has, end_targets}
+use Rattle.spv_blocks.specs.Blocks.{Code, Construct, ASwitch, ALoop, has, end_targets}
 use Rattle.spv_blocks.specs.Cutting.{blocks_of}
 use Rattle.spv_walk.specs.Contexts.{Context, InSelection, InArm, InBody, InNext, behind, is_exit, in_next}
 use Rattle.spv_walk.specs.Faults.{end_rules}

@@ -1,2 +1,3 @@
+pub mod Pruned
 pub mod Laws
 pub mod Facts

@@ -6,5 +6,5 @@
 mod facts;
 mod laws;
 
-pub use facts::facts_of_unbroken;
-pub use laws::{converse_law, unbroken_stands_law};
+pub use facts::{facts_of_arms, facts_of_unbroken};
+pub use laws::{converse_law, pruning_law, unbroken_agreement_law, unbroken_stands_law};

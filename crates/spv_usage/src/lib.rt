@@ -11,6 +11,3 @@ pub use orderings::ordering_fits;
 pub use rules::broken_usage_rule;
 pub use stages::Stage;
 pub use storage::storage_fits;
-
-#[cfg(test)]
-mod tests;

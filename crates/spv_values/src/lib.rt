@@ -8,6 +8,3 @@ pub use values::{
     is_bools, is_ints, is_pointer_value, is_value, is_value_of, pointer_type, value_shape,
     value_type,
 };
-
-#[cfg(test)]
-mod tests;

@@ -1,34 +1,29 @@
-use Rattle.std.proofs.Common.{ℕ, ◌≤◌, ◌∙◌, List, length, sym, ap, subst, Ok, Err}
+use Rattle.std.proofs.Common.{◌∙◌, sym, ap, Err, Ok, arith}
+use Rattle.spv_base.specs.declared.header.Header.{Header}
 use Rattle.std.proofs.lemmas.Result.{err_from_is_err_and}
-use Rattle.spv_module.specs.Decode.{Decodes}
-use Rattle.opt_top.proofs.Answering.{bytes_refused, decode_refused, decoded_rises, module_admitted, module_broken}
-use Rattle.opt_top.proofs.Bounds.{decoded-small}
+use Rattle.opt_top.proofs.Answering.{bytes_refused, norm_bound, norm_means, words_admitted, words_refused}
 use Rattle.opt_top.proofs.answer.read_module.Goals as goal
 
 pub returns-in-Err-clause-answer : goal.returns-in-Err-clause-answer
 returns-in-Err-clause-answer c = bytes_refused c.args.bytes.now c.in-Err.fault c.byte_fault.result c.in-Err.ensures.answer c.byte_fault.ensures
 
-pub returns-in_err-flat-clause-answer : goal.returns-in_err-flat-clause-answer
-returns-in_err-flat-clause-answer c =
+pub returns-in_err-norm-clause-answer : goal.returns-in_err-norm-clause-answer
+returns-in_err-norm-clause-answer c =
     let fault = err_from_is_err_and c.from_residual.result c.from_residual.ensures.1 in
-    decode_refused c.args.bytes.now c.in-Ok.words c.in_err-flat.field-0.0 c.decode.result c.from_residual.result
-    c.in-Ok.ensures.answer c.in_err-flat.was (fault.1 ∙ ap Err fault.2) (subst (λ (words : List ℕ). Decodes words c.decode.result) c.as_slice-words.ensures c.decode.ensures.answer)
-
-pub check_module-requires : goal.check_module-requires
-check_module-requires c =
-    let five : 5 ≤ length c.as_slice-words.result.now = rw c.as_slice-words.ensures c.in-Ok.ensures.header.five in
-    decoded_rises c.as_slice-words.result.now c.in_ok-flat.flat five c.in_ok-flat.ensures.answer
-
-pub returns-in_err-check_module-clause-answer : goal.returns-in_err-check_module-clause-answer
-returns-in_err-check_module-clause-answer c =
-    let fault = err_from_is_err_and c.from_residual-in_err-check_module.result c.from_residual-in_err-check_module.ensures.1 in
-    module_broken c.args.bytes.now c.as_slice-words.result.now c.in_ok-flat.flat c.in_err-check_module.field-0.0 c.check_module.result c.from_residual-in_err-check_module.result
-    (c.in-Ok.ensures.answer ∙ ap Ok (sym c.as_slice-words.ensures)) c.in_ok-flat.ensures.answer c.in_err-check_module.was (fault.1 ∙ ap Err fault.2) c.check_module.ensures
+    words_refused c.args.bytes.now c.as_slice.result.now c.in_err-norm.field-0.0 c.admit.result c.from_residual.result
+    (c.in-Ok.ensures.answer ∙ ap Ok (sym c.as_slice.ensures)) c.in_err-norm.was (fault.1 ∙ ap Err fault.2) c.admit.ensures
 
 pub returns-clause-answer : goal.returns-clause-answer
 returns-clause-answer c =
-    module_admitted c.args.bytes.now c.as_slice-words.result.now c.in_ok-flat.flat (c.in-Ok.ensures.answer ∙ ap Ok (sym c.as_slice-words.ensures))
-    c.in_ok-flat.ensures.answer c.in_ok-check_module.ensures.0
+    words_admitted c.args.bytes.now c.as_slice.result.now c.in_ok-norm.norm (c.in-Ok.ensures.answer ∙ ap Ok (sym c.as_slice.ensures))
+    c.in_ok-norm.ensures
+
+pub returns-clause-means : goal.returns-clause-means
+returns-clause-means c =
+    norm_means c.args.bytes.now c.as_slice.result.now c.in_ok-norm.norm (c.in-Ok.ensures.answer ∙ ap Ok (sym c.as_slice.ensures))
+    c.in_ok-norm.ensures
 
 pub returns-clause-bound : goal.returns-clause-bound
-returns-clause-bound c = decoded-small c.as_slice-words.result.now c.in_ok-flat.flat c.in_ok-flat.ensures.answer c.in_ok-flat.ensures.each
+returns-clause-bound c =
+    let same = ap (λ (header : Header). header.bound) c.header-bound.ensures in
+    norm_bound c.as_slice.result.now c.in_ok-norm.norm c.in_ok-norm.ensures (omega (arith, same, c.header-bound.type_inv))

@@ -1,0 +1,9 @@
+pub mod Lists
+pub mod Functions
+pub mod Places
+pub mod Entering
+pub mod Apart
+pub mod Named
+pub mod Saying
+pub mod Whole
+pub mod SmallModule

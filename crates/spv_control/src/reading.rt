@@ -1,0 +1,99 @@
+ghost use Rattle.std.specs.Prelude.{◌≡◌, ℕ, ◌+◌, List, IfOk, OnOk, count_by};
+ghost use Rattle.spv_module.specs.Code.{is_function};
+ghost use Rattle.spv_module.specs.Instruction.{Instruction};
+ghost use Rattle.spv_blocks.specs.Cutting.{function_insts};
+ghost use Rattle.spv_functions.specs.Functions.{Answers, AreFunctions, IsDeclared, Refuses, is_pointer};
+ghost use Rattle.spv_control.specs.Control.{Reads};
+ghost use Rattle.spv_control.specs.Reading.{IsReadBelow};
+
+use spv_base::{Fault, NoMemory, Refusal};
+use spv_faults::earlier;
+use spv_functions::Functions;
+use spv_module::Flat;
+use spv_tree::Body;
+use sqlite_items::Items;
+use std::alloc::Global;
+
+/// What is told of the functions that were read.
+#[derive(Drop)]
+struct Reading {
+    /// The first rule that one of them breaks.
+    refusal: Option<Refusal>,
+    /// Whether one of them nests too deep.
+    nests: bool,
+    /// The trees of the others.
+    bodies: Items<Body>,
+}
+
+impl Reading {
+    /// Before any function is read.
+    fn new(alloc: Global) -> Reading
+        ensures { (insts : List Instruction) → IsReadBelow insts 0 result.refusal result.nests result.bodies }
+    {
+        Reading {
+            refusal: None,
+            nests: false,
+            bodies: Items::new(alloc),
+        }
+    }
+
+    /// Adds the fault that is told of the next function.
+    fn add_fault(&mut self, fault: Fault) -> Result<(), NoMemory>
+        ensures { OnOk result ((insts : List Instruction) (n : ℕ) → IsReadBelow insts n self.old.refusal self.old.nests self.old.bodies → Refuses (is_pointer insts) (function_insts n insts) fault → IsReadBelow insts (n + 1) self.new.refusal self.new.nests self.new.bodies) }
+    {
+        match fault {
+            Fault::Refused(refusal) => self.refusal = earlier(self.refusal, Some(refusal)),
+            Fault::Nesting => self.nests = true,
+            Fault::NoMemory => return Err(NoMemory),
+        }
+        Ok(())
+    }
+
+    /// Adds what is told of the next function.
+    fn add(&mut self, function: Result<Body, Fault>) -> Result<(), NoMemory>
+        ensures { OnOk result ((insts : List Instruction) (n : ℕ) → IsReadBelow insts n self.old.refusal self.old.nests self.old.bodies → Answers (is_pointer insts) (function_insts n insts) function → IsReadBelow insts (n + 1) self.new.refusal self.new.nests self.new.bodies) }
+    {
+        match function {
+            Ok(body) => self.bodies.push(body)?,
+            Err(fault) => self.add_fault(fault)?,
+        }
+        Ok(())
+    }
+
+    /// The answer, where these are all functions of a module.
+    fn answer(self) -> Result<Items<Body>, Fault>
+        ensures { (insts : List Instruction) → IsReadBelow insts (count_by is_function insts) self.refusal self.nests self.bodies → Reads insts result }
+    {
+        match self.refusal {
+            Some(refusal) => Err(Fault::Refused(refusal)),
+            None if self.nests => Err(Fault::Nesting),
+            None => Ok(self.bodies),
+        }
+    }
+}
+
+/// What is told of all functions of a module.
+fn read_all(alloc: Global, flat: &Flat, functions: &Functions) -> Result<Reading, NoMemory>
+    requires own { AreFunctions flat.now.insts functions.now }
+    requires declared { IsDeclared flat.now.insts }
+    ensures { IfOk result (λ reading. IsReadBelow flat.now.insts (count_by is_function flat.now.insts) reading.refusal reading.nests reading.bodies) }
+{
+    let mut reading = Reading::new(alloc);
+    'functions: for f in 0..flat.functions() {
+        reading.add(functions.parse(alloc, flat, f))?;
+    }
+    Ok(reading)
+}
+
+/// The trees of all functions of a module, in order. It is refused exactly by the first rule on structured control flow that
+/// one of them breaks, also one behind a function that nests too deep; where none is broken, it nests too deep exactly where
+/// one of them does.
+///
+/// The module is to break no rule on layout and on declarations.
+pub fn parse_all(alloc: Global, flat: &Flat, functions: &Functions) -> Result<Items<Body>, Fault>
+    requires own { AreFunctions flat.now.insts functions.now }
+    requires declared { IsDeclared flat.now.insts }
+    ensures { Reads flat.now.insts result }
+{
+    read_all(alloc, flat, functions)?.answer()
+}

@@ -1,0 +1,15 @@
+pub mod SmallTrees
+pub mod Levels
+pub mod Passed
+pub mod Kept
+pub mod Whole
+pub mod Uses
+pub mod Places
+pub mod Numbers
+pub mod Homes
+pub mod NoPhis
+pub mod Available
+pub mod LinesAt
+pub mod Lines
+pub mod Modules
+pub mod Wider

@@ -1,4 +1,0 @@
-pub mod Places
-pub mod Greatest
-pub mod FormScan
-pub mod FormLaw

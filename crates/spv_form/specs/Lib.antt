@@ -1,3 +1,0 @@
-pub mod OneBlock
-pub mod Bound
-pub mod FormSteps

@@ -1,0 +1,5 @@
+pub mod OneNumber
+pub mod Together
+pub mod Joined
+pub mod Short
+pub mod Reached

@@ -1,0 +1,14 @@
+pub mod Instructions
+pub mod MadeLines
+pub mod PhiPairs
+pub mod FunctionLines
+pub mod CutAgain
+pub mod Walks
+pub mod LaidOut
+pub mod Whole
+pub mod Definitions
+pub mod Definers
+pub mod Tidy
+pub mod Covered
+pub mod Defined
+pub mod Once

@@ -1,0 +1,6 @@
+pub mod Pieces
+pub mod Again
+pub mod Labels
+pub mod Normal
+pub mod Pointers
+pub mod Depths

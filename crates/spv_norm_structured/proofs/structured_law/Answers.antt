@@ -1,0 +1,9 @@
+use Rattle.spv_norm_structured.proofs.Depths as depths
+use Rattle.spv_norm_structured.proofs.Pointers as pointers
+use Rattle.spv_norm_structured.proofs.structured_law.Goals as goal
+
+pub returns-clause-unbroken : goal.returns-clause-unbroken
+returns-clause-unbroken c = pointers.norm_is_unbroken
+
+pub returns-clause-shallow : goal.returns-clause-shallow
+returns-clause-shallow c = depths.norm_is_shallow

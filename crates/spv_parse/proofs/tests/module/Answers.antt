@@ -1,5 +1,0 @@
-use Rattle.spv_parse.proofs.Admitted.{read_laid_out}
-use Rattle.spv_parse.proofs.tests.module.Goals as goal
-
-pub returns-in-Ok : goal.returns-in-Ok
-returns-in-Ok c = read_laid_out _ c.in-Ok.flat c.in-Ok.ensures.answer
