@@ -1,3 +1,4 @@
+use spv_base::MAGIC;
 use spv_bound::bound_of;
 use spv_module::{Flat, decode};
 use std::alloc::Global;
@@ -50,7 +51,11 @@ fn naming(id: u32) -> [u32; 33] {
 
 /// The module that names the id, where it can be read.
 fn module(alloc: Global, id: u32) -> Option<Flat> {
-    decode(alloc, &naming(id)).ok()
+    let words = naming(id);
+    if words[0] != MAGIC {
+        return None;
+    }
+    decode(alloc, &words).ok()
 }
 
 #[test]
