@@ -8,24 +8,21 @@
 
 set -eu
 
-here=$(dirname -- "$(readlink -f -- "${BASH_SOURCE[0]}")")
-root=$(dirname -- "$here")
-shader=$root/examples/doubles_a_buffer.spv
-program=$root/crates/spirv_opt/out/spirv_opt
-
-work=$(mktemp -d)
-trap 'rm -rf -- "$work"' EXIT
-
-# Builds the program where it is missing or stale.
-"$root/spirv-opt" --strip-debug "$shader" -o "$work/small.spv"
-
-measure() {
-    python3 -I -S "$here/measure.py" "$@"
-}
+. "$(dirname -- "$(readlink -f -- "${BASH_SOURCE[0]}")")/optimiser.sh"
 
 # Measures the module that was made.
 strip() {
     measure "$1, $(stat -c %s "$work/in.spv") bytes" "$program" --strip-debug "$work/in.spv" -o "$work/out.spv"
+}
+
+# Measures functions with so many blocks, or so many functions.
+blocks() {
+    local kind=$1 count
+    shift
+    for count; do
+        python3 "$here/trees.py" "$shader" "$kind" "$count" "$work/in.spv"
+        strip "$kind, $count"
+    done
 }
 
 measure true true
@@ -39,15 +36,6 @@ for count in 500 700 1000; do
     python3 "$here/admission.py" "$shader" globals "$count" "$work/in.spv"
     strip "globals, $count"
 done
-blocks() {
-    local kind=$1 count
-    shift
-    for count; do
-        python3 "$here/trees.py" "$shader" "$kind" "$count" "$work/in.spv"
-        strip "$kind, $count"
-    done
-}
-
 blocks functions 1800 3600 7200
 blocks chain 25000 50000 100000
 blocks selections 20000 40000 80000

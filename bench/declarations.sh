@@ -8,20 +8,7 @@
 
 set -eu
 
-here=$(dirname -- "$(readlink -f -- "${BASH_SOURCE[0]}")")
-root=$(dirname -- "$here")
-shader=$root/examples/doubles_a_buffer.spv
-program=$root/crates/spirv_opt/out/spirv_opt
-
-work=$(mktemp -d)
-trap 'rm -rf -- "$work"' EXIT
-
-# Builds the program where it is missing or stale. The shader has one debug instruction more than the modules.
-"$root/spirv-opt" --strip-debug "$shader" -o "$work/shader.spv"
-
-measure() {
-    python3 -I -S "$here/measure.py" "$@"
-}
+. "$(dirname -- "$(readlink -f -- "${BASH_SOURCE[0]}")")/optimiser.sh"
 
 measure true true
 for kind in constants arrays decorations members; do

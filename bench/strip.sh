@@ -7,24 +7,11 @@
 
 set -eu
 
-here=$(dirname -- "$(readlink -f -- "${BASH_SOURCE[0]}")")
-root=$(dirname -- "$here")
-shader=$root/examples/doubles_a_buffer.spv
-program=$root/crates/spirv_opt/out/spirv_opt
-
-work=$(mktemp -d)
-trap 'rm -rf -- "$work"' EXIT
-
-# Builds the program where it is missing or stale.
-"$root/spirv-opt" --strip-debug "$shader" -o "$work/small.spv"
+. "$(dirname -- "$(readlink -f -- "${BASH_SOURCE[0]}")")/optimiser.sh"
 
 python3 "$here/large_module.py" "$shader" "$work/in.spv" "$work/stripped.spv"
 printf 'module: %d bytes, without debug instructions %d bytes\n' \
     "$(stat -c %s "$work/in.spv")" "$(stat -c %s "$work/stripped.spv")"
-
-measure() {
-    python3 -I -S "$here/measure.py" "$@"
-}
 
 measure spirv-opt "$program" --strip-debug "$work/in.spv" -o "$work/out.spv"
 cmp -- "$work/out.spv" "$work/stripped.spv"

@@ -257,34 +257,30 @@ def deep_switches(maker, count):
     yield END
 
 
-def deep_loops(maker, count):
-    """Loops in one another's bodies, so deep."""
+def loops_in_loops(maker, count, opening, closing):
+    """Loops in one another, so deep: what stands first in the body of each, and what ends its last block."""
     made = [maker.labels(3) for _ in range(count)]
     for header, target, merge in made:
         yield branch(header)
         body = maker.fresh()
         yield from block(header, instruction(OP_LOOP_MERGE, merge, target, 0), maker.split(body, merge))
-        yield from block(body)
+        yield from block(body, *opening(target))
     for header, target, merge in reversed(made):
-        yield branch(target)
-        yield from block(target, branch(header))
+        yield from closing(header, target)
         yield from block(merge)
     yield END
+
+
+def deep_loops(maker, count):
+    """Loops in one another's bodies, so deep."""
+    yield from loops_in_loops(
+        maker, count, lambda target: [], lambda header, target: [branch(target), *block(target, branch(header))]
+    )
 
 
 def deep_continues(maker, count):
     """Loops in one another's continue parts, so deep."""
-    made = [maker.labels(3) for _ in range(count)]
-    for header, target, merge in made:
-        yield branch(header)
-        body = maker.fresh()
-        yield from block(header, instruction(OP_LOOP_MERGE, merge, target, 0), maker.split(body, merge))
-        yield from block(body, branch(target))
-        yield from block(target)
-    for header, target, merge in reversed(made):
-        yield branch(header)
-        yield from block(merge)
-    yield END
+    yield from loops_in_loops(maker, count, onward, lambda header, target: [branch(header)])
 
 
 # ---- Refused
