@@ -4,6 +4,10 @@
 #![tactic(auto)]
 
 #[cfg(test)]
+mod front_end;
+#[cfg(test)]
+mod late_rules;
+#[cfg(test)]
 mod rules;
 #[cfg(test)]
 mod tests;

@@ -24,14 +24,19 @@ fn rule_name(rule: u32) -> &'static str {
         402 => "BadTarget",
         406 => "BadPhi",
         501 => "OperandType",
+        502 => "ResultType",
         503 => "NotAvailable",
         504 => "StorageUse",
+        505 => "ScopeOrSemantics",
         506 => "CallShape",
         507 => "ReturnType",
+        601 => "CallCycle",
         602 => "Interface",
         603 => "Binding",
+        604 => "EntryName",
         605 => "LocalSize",
         606 => "EntryFunction",
+        607 => "ManyExits",
         _ => "unknown",
     }
 }
@@ -44,7 +49,7 @@ fn split(words: &[u32], count: u32) -> (&[u32], &[u32])
 }
 
 /// The shader with edits.
-fn edited(alloc: Global, edits: &[u32]) -> Result<Vec<u32>, Fail> {
+pub fn edited(alloc: Global, edits: &[u32]) -> Result<Vec<u32>, Fail> {
     let mut shader = DOUBLING;
     shader[3] = 0x400;
     let mut words = Vec::new(alloc);
@@ -65,7 +70,7 @@ fn edited(alloc: Global, edits: &[u32]) -> Result<Vec<u32>, Fail> {
 }
 
 /// Whether the words end so: refused by this rule at this place and with no output opened, or done where it is 0.
-fn is_told(alloc: Global, words: &[u32], rule: u32, at: u32) -> Result<bool, Fail> {
+pub fn is_told(alloc: Global, words: &[u32], rule: u32, at: u32) -> Result<bool, Fail> {
     let input = encoded(alloc, words, false)?;
     let mut memory = with_input(alloc, 1000, input.as_slice())?;
     if rule == 0 {
@@ -85,7 +90,7 @@ fn is_right(alloc: Global, case: &[u32]) -> Result<bool, Fail> {
 }
 
 /// The first case that does not end as it says.
-fn first_wrong<'a>(alloc: Global, cases: &[&'a [u32]]) -> Result<Option<&'a [u32]>, Fail> {
+pub fn first_wrong<'a>(alloc: Global, cases: &[&'a [u32]]) -> Result<Option<&'a [u32]>, Fail> {
     'cases: for case in cases {
         if !is_right(alloc, case)? {
             return Ok(Some(*case));

@@ -5,8 +5,8 @@ use Rattle.std.proofs.lemmas.List.{length-append}
 use Rattle.opt_outside.specs.Seen.{Seen, Rises}
 use Rattle.opt_top.specs.declared.status.Status.{Status}
 use Rattle.opt_top.specs.declared.status.Status.TheVariants.{Done, Refused, Usage, ReadFault, WriteFault, Limit, NoMemory}
-use Rattle.spv_admission.specs.Admission.{IsTooNested}
-use Rattle.spv_admission.proofs.OneAnswer.{one_answer}
+use Rattle.spv_profile.specs.Profile.{IsTooNested}
+use Rattle.spv_profile.proofs.OneAnswer.{one_answer}
 use Rattle.spv_base.specs.declared.fault.Refusal.{Refusal}
 use Rattle.spv_words.specs.declared.fault.WordsFault.{WordsFault}
 use Rattle.spv_words.specs.Words.{words_in}

@@ -3,7 +3,7 @@ use Rattle.std.proofs.Common.{◌≡◌, ℕ, ◌+◌, Bool, true, false, cond, 
 use Rattle.std.specs.Prelude.{filter}
 use Rattle.std.specs.List.{flat_map}
 use Rattle.std.proofs.lemmas.List.Folds.{flat_map-map}
-use Rattle.spv_admission.proofs.OneAnswer.{one_answer as one_admission}
+use Rattle.spv_profile.proofs.OneAnswer.{one_answer as one_admission}
 use Rattle.spv_base.specs.declared.fault.Refusal.{Refusal}
 use Rattle.spv_base.specs.declared.header.Header.{Header}
 use Rattle.spv_bound.specs.Bound.{bound_of_ids, greatest, named_ids, words_with}

@@ -1,6 +1,6 @@
 -- What the optimiser makes of the bytes of its input.
 use Rattle.std.specs.Prelude.{◌≡◌, ℕ, List, Result, Ok, Err, ⊤}
-use Rattle.spv_admission.specs.Admission.{IsInProfile, IsRefused, IsTooNested}
+use Rattle.spv_profile.specs.Profile.{IsInProfile, IsRefused, IsTooNested}
 use Rattle.spv_base.specs.declared.fault.Fault.{Fault}
 use Rattle.spv_base.specs.declared.fault.Fault.TheVariants as faults
 use Rattle.spv_base.specs.declared.fault.Refusal.{Refusal}

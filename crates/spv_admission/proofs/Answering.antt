@@ -23,7 +23,9 @@ use Rattle.spv_module_rules.specs.Broken.{BrokenInWhole, Checks as ChecksWhole}
 use Rattle.spv_norm.specs.Norm.{IsNorm}
 use Rattle.spv_norm_means.specs.Laws.{MeansAsMuch}
 use Rattle.spv_admitted.proofs.Whole.{admitted_means_as_much}
-use Rattle.spv_admission.specs.Admission.{Admits, ByBodies, ByControlFlow, ByDeclarations, ByDecoding, ByWhole, IsDeclaredModule, IsStructuredModule}
+use Rattle.spv_admission.specs.Admission.{Admits}
+use Rattle.spv_profile.specs.Profile.{ByBodies, ByControlFlow, ByDeclarations, ByDecoding, ByWhole, IsDeclaredModule, IsInProfile, IsStructuredModule}
+use Rattle.spv_norm_profile.proofs.Whole.{norm_is_module}
 use Rattle.spv_admission.proofs.Findings.{find_nothing}
 
 -- the places of the instructions that words spell rise
@@ -91,13 +93,18 @@ module _ (words : List ℕ) (code : Code) (is : code ≡ code_of words) where
             → Admits words answer
         whole_told fault found answer e f h = subst (Admits words) (sym f) (by_whole fault (subst Looks e h))
 
+        profile : IsFirst (BrokenInWhole code.insts) None → IsInProfile words
+        profile w = record { structured = read_structured; bodies = checked; whole = subst (λ (c : Code). IsFirst (BrokenInWhole c.insts) None) is w }
+
         pub all_told : (norm : Code) → IsFirst (BrokenInWhole code.insts) None → AreInstructions code.insts → IsDeclared code.insts → IsNorm code norm
             → Admits words (Ok norm)
-        all_told norm w each declared n = (
-          record { structured = read_structured; bodies = checked; whole = subst (λ (c : Code). IsFirst (BrokenInWhole c.insts) None) is w },
-          subst (λ (c : Code). IsNorm c norm) is n,
-          subst (λ (c : Code). MeansAsMuch c norm) is (admitted_means_as_much code norm bodies (find_nothing code bodies each declared p b w) n),
-        )
+        all_told norm w each declared n =
+            let normal : IsNorm (code_of words) norm = subst (λ (c : Code). IsNorm c norm) is n in (
+              profile w,
+              normal,
+              subst (λ (c : Code). MeansAsMuch c norm) is (admitted_means_as_much code norm bodies (find_nothing code bodies each declared p b w) n),
+              norm_is_module words bodies norm (profile w) (subst (λ (c : Code). AreParsed c.insts bodies) is p) normal,
+            )
 
 -- ---- the words, and the declarations
 

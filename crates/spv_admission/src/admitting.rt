@@ -3,7 +3,8 @@ ghost use Rattle.spv_words.specs.Words.{HasHeader};
 ghost use Rattle.spv_module.specs.Code.{code_of};
 ghost use Rattle.spv_types.specs.Whole.{Rises};
 ghost use Rattle.spv_functions.specs.Functions.{IsDeclared};
-ghost use Rattle.spv_admission.specs.Admission.{Admits, IsDeclaredModule};
+ghost use Rattle.spv_admission.specs.Admission.{Admits};
+ghost use Rattle.spv_profile.specs.Profile.{IsDeclaredModule};
 
 use spv_base::Fault;
 use spv_check::check;

@@ -2,7 +2,5 @@
 #![tactic(auto)]
 
 mod admitting;
-mod laws;
 
 pub use admitting::admit;
-pub use laws::one_answer_law;

@@ -1,12 +1,11 @@
 -- Instructions of the same words break the same rules in modules that are alike: laws, as statements.
-use Rattle.std.specs.Prelude.{◌≡◌, ℕ, ◌==◌, ◌||◌, true, List, Option, slice_index}
-use Rattle.spv_opcodes.specs.declared.op.TheConstants as op
-use Rattle.spv_module.specs.Instruction.{Instruction, opcode}
+use Rattle.std.specs.Prelude.{◌≡◌, ℕ, List, Option}
+use Rattle.spv_module.specs.Instruction.{Instruction}
 use Rattle.spv_declarations.specs.Laws.{IsUnbroken}
 use Rattle.spv_arithmetic.specs.Operands.{operands_fit}
 use Rattle.spv_arithmetic.specs.Results.{result_fits}
 use Rattle.spv_composites.specs.Broken.{composite_rules}
-use Rattle.spv_usage.specs.Stages.{Stage}
+use Rattle.spv_usage.specs.declared.stages.Stage.{Stage}
 use Rattle.spv_usage.specs.Storage.{storage_fits}
 use Rattle.spv_usage.specs.Orderings.{ordering_fits}
 use Rattle.spv_signatures.specs.Functions.{function_fits}

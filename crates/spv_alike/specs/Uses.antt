@@ -1,5 +1,5 @@
 -- The ids that instructions use as values, types, functions, sets or strings, and not as labels.
-use Rattle.std.specs.Prelude.{◌≡◌, ◌≢◌, ℕ, Bool, false, cond, ◌==◌, ◌||◌, List, [], ◌∷◌, map, drop, slice_get, slice_index, Some}
+use Rattle.std.specs.Prelude.{◌≡◌, ◌≢◌, ℕ, false, cond, ◌==◌, ◌||◌, List, [], ◌∷◌, map, drop, slice_get, slice_index, Some}
 use Rattle.std.specs.List.{Contains}
 use Rattle.spv_opcodes.specs.declared.op.TheConstants as op
 use Rattle.spv_module.specs.Instruction.{Instruction, opcode}

@@ -1,0 +1,11 @@
+pub mod Lookups
+pub mod Guarded
+pub mod Arithmetic
+pub mod Vectors
+pub mod Memory
+pub mod Lengths
+pub mod Composites
+pub mod Usage
+pub mod Seconds
+pub mod Signatures
+pub mod Rules

@@ -1,0 +1,16 @@
+pub mod Rounds
+pub mod Unreached
+pub mod Arriving
+pub mod Points
+pub mod Copies
+pub mod Selectors
+pub mod Reading
+pub mod Tidy
+pub mod Unmarked
+pub mod Spots
+pub mod Numbered
+pub mod Definers
+pub mod Used
+pub mod Inside
+pub mod Joined
+pub mod SmallFunctions

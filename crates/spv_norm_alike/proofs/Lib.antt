@@ -1,0 +1,11 @@
+pub mod Lists
+pub mod Values
+pub mod Places
+pub mod Said
+pub mod Known
+pub mod Behind
+pub mod Lengths
+pub mod FormTables
+pub mod Leading
+pub mod Parameters
+pub mod Whole

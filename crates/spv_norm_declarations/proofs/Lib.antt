@@ -1,0 +1,15 @@
+pub mod Lookups
+pub mod TypeFits
+pub mod OtherFits
+pub mod Rules
+pub mod Outside
+pub mod Uses
+pub mod BlockLabels
+pub mod Defined
+pub mod InFunctions
+pub mod MadeValues
+pub mod MadeLabels
+pub mod OutsideKnown
+pub mod Values
+pub mod Whole
+pub mod Law

@@ -1,0 +1,16 @@
+pub mod Lists
+pub mod Places
+pub mod Fronts
+pub mod Preamble
+pub mod Lookups
+pub mod Bindings
+pub mod Sizes
+pub mod EntryFunctions
+pub mod Uses
+pub mod Made
+pub mod Starts
+pub mod Functions
+pub mod Calls
+pub mod Interfaces
+pub mod Called
+pub mod Entered

@@ -1,0 +1,10 @@
+pub mod Counts
+pub mod Labels
+pub mod Marks
+pub mod Lines
+pub mod Tables
+pub mod Outermost
+pub mod Nested
+pub mod SameCounts
+pub mod Crowding
+pub mod Whole

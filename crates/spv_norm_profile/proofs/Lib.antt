@@ -1,0 +1,4 @@
+pub mod Entered
+pub mod Meaning
+pub mod Words
+pub mod Whole

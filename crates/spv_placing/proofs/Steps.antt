@@ -1,0 +1,43 @@
+-- Instructions placed one by one.
+use Rattle.std.proofs.Common.{◌≡◌, ℕ, zero, suc, ◌+◌, List, [], ◌∷◌, ◌++◌, length, drop, slice_get, Some, refl, sym, ap, ◌∙◌, arith, append_assoc, append-nil}
+use Rattle.spv_module.specs.Instruction.{Instruction}
+use Rattle.spv_placing.specs.Placing.{placed_from}
+
+-- from a place in a list on: what stands there, and what stands behind it
+dropped_one : (xs : List Instruction) (k : ℕ) (x : Instruction) → slice_get xs k ≡ Some x → drop k xs ≡ x ∷ drop (suc k) xs
+dropped_one [] k x e = absurd (cc e)
+dropped_one (y ∷ ys) zero x e = let same : y ≡ x = cc e in ap (λ z. z ∷ ys) same
+dropped_one (y ∷ ys) (suc k) x e = dropped_one ys k x e
+
+suc_more : (k : ℕ) → k + 1 ≡ suc k
+suc_more k = omega arith
+
+dropped_next : (xs : List Instruction) (k : ℕ) (x : Instruction) → slice_get xs k ≡ Some x → drop k xs ≡ x ∷ drop (k + 1) xs
+dropped_next xs k x e = dropped_one xs k x e ∙ ap (λ (n : ℕ). x ∷ drop n xs) (sym (suc_more k))
+
+-- one instruction more is placed
+pub placed_next : (insts after all whole : List Instruction) (at next k : ℕ) (x placed : Instruction) → insts ++ placed_from at (drop k all) ≡ whole
+    → after ≡ insts ++ placed ∷ [] → placed ≡ (record { offset = at; words = x.words }) → next ≡ at + length x.words → slice_get all k ≡ Some x
+    → after ++ placed_from next (drop (k + 1) all) ≡ whole
+placed_next insts after all whole at next k x placed e d p n g =
+    let here : insts ++ placed_from at (x ∷ drop (k + 1) all) ≡ whole = ap (λ (more : List Instruction). insts ++ placed_from at more) (sym (dropped_next all k x g)) ∙ e in
+    ap (λ (front : List Instruction). front ++ placed_from next (drop (k + 1) all)) d
+    ∙ append_assoc insts (placed ∷ []) (placed_from next (drop (k + 1) all))
+    ∙ ap (λ (i : Instruction). insts ++ i ∷ placed_from next (drop (k + 1) all)) p
+    ∙ ap (λ (m : ℕ). insts ++ (record { offset = at; words = x.words }) ∷ placed_from m (drop (k + 1) all)) n
+    ∙ here
+
+dropped_all : (xs : List Instruction) → drop (length xs) xs ≡ []
+dropped_all [] = refl
+dropped_all (x ∷ xs) = dropped_all xs
+
+-- all are
+pub placed_all : (insts all whole : List Instruction) (at k : ℕ) → insts ++ placed_from at (drop k all) ≡ whole → k ≡ length all → insts ≡ whole
+placed_all insts all whole at k e n =
+    sym (append-nil insts)
+    ∙ ap (λ (more : List Instruction). insts ++ placed_from at more) (sym (ap (λ (m : ℕ). drop m all) n ∙ dropped_all all))
+    ∙ e
+
+pub placed_count : (at : ℕ) (insts : List Instruction) → length (placed_from at insts) ≡ length insts
+placed_count at [] = refl
+placed_count at (i ∷ is) = ap suc (placed_count (at + length i.words) is)

@@ -1,0 +1,6 @@
+//! The instructions of a module placed one behind the other, as the words that spell it have them.
+#![tactic(auto)]
+
+mod placing;
+
+pub use placing::placed;

@@ -1,0 +1,15 @@
+pub mod Shape
+pub mod Fits
+pub mod Walked
+pub mod Passes
+pub mod Words
+pub mod Lines
+pub mod Sent
+pub mod Trees
+pub mod Functions
+pub mod Whole
+pub mod SmallTrees
+pub mod Inner
+pub mod Fronts
+pub mod Back
+pub mod Converse
