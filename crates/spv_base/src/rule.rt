@@ -36,9 +36,6 @@ pub const BAD_STRING: u16 = 108;
 /// The profile does not have an enumerant, a mask or the name of an import.
 pub const BAD_ENUMERANT: u16 = 109;
 
-/// The module has a form that is not built yet. This rule goes once all forms are.
-pub const NOT_YET: u16 = 190;
-
 /// An instruction's section comes before one that has begun.
 pub const LAYOUT_ORDER: u16 = 201;
 

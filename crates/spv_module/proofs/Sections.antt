@@ -1,7 +1,7 @@
 -- Each instruction has a section, and functions are counted one by one.
-use Rattle.std.proofs.Common.{◌≡◌, ℕ, suc, ◌+◌, ◌<◌, ◌≤◌, Bool, true, false, cond, ◌||◌, List, [], ◌∷◌, ◌++◌, length, take, drop, get_or, Option, Some, None, refl, sym, ap, subst, ◌∙◌, arith, append_assoc, add-one}
+use Rattle.std.proofs.Common.{◌≡◌, ℕ, suc, ◌+◌, ◌<◌, ◌≤◌, Bool, true, false, cond, ◌||◌, List, [], ◌∷◌, ◌++◌, length, take, drop, get_or, set, Option, Some, None, refl, sym, ap, subst, ◌∙◌, arith, append_assoc, add-one}
 use Rattle.std.specs.List.{slice_get, count_by}
-use Rattle.std.proofs.Math.Seq.{take-suc, drop-cons}
+use Rattle.std.proofs.Math.Seq.{take-suc-set, drop-cons}
 use Rattle.std.proofs.lemmas.List.Sums.{count_by_more_yes, count_by_more_no}
 use Rattle.std.proofs.lemmas.Option.{get_or_from_slice_get}
 use Rattle.spv_module.specs.Code.{section_in, sections_from, sections_of, is_function}
@@ -15,14 +15,14 @@ length-sections_from begun before (i ∷ insts) = ap suc (length-sections_from (
 pub length-sections_of : (insts : List Instruction) → length (sections_of insts) ≡ length insts
 length-sections_of insts = length-sections_from false 1 insts
 
--- the section of one instruction more
-pub sections-step : (insts : List Instruction) (out out2 : List ℕ) (begun begun2 : Bool) (before before2 : ℕ) (k : ℕ) (i : Instruction) → sections_of insts ≡ out ++ sections_from begun before (drop k insts) → k < length insts →
-    slice_get insts k ≡ Some i → before2 ≡ section_in begun before i → out2 ≡ out ++ before2 ∷ [] → begun2 ≡ (begun || is_function i) → sections_of insts ≡ out2 ++ sections_from begun2 before2 (drop (k + 1) insts)
-sections-step insts out out2 begun begun2 before before2 k i e fits at section pushed function =
+-- the section of one instruction more is in its place
+pub sections-step : (insts : List Instruction) (out : List ℕ) (begun begun2 : Bool) (before before2 : ℕ) (k : ℕ) (i : Instruction) → sections_of insts ≡ take k out ++ sections_from begun before (drop k insts) → k < length insts → k < length out →
+    slice_get insts k ≡ Some i → before2 ≡ section_in begun before i → begun2 ≡ (begun || is_function i) → sections_of insts ≡ take (k + 1) (set out k before2) ++ sections_from begun2 before2 (drop (k + 1) insts)
+sections-step insts out begun begun2 before before2 k i e fits room at section function =
     let cut : drop k insts ≡ i ∷ drop (suc k) insts = drop-cons insts k i fits ∙ ap (λ (j : Instruction). j ∷ drop (suc k) insts) (get_or_from_slice_get insts k i i at) in
-    rw (add-one, pushed, section, function)
-    (e ∙ ap (λ (rest : List Instruction). out ++ sections_from begun before rest) cut
-    ∙ sym (append_assoc out (section_in begun before i ∷ []) (sections_from (begun || is_function i) (section_in begun before i) (drop (suc k) insts))))
+    rw (add-one, take-suc-set out k before2 room, section, function)
+    (e ∙ ap (λ (rest : List Instruction). take k out ++ sections_from begun before rest) cut
+    ∙ sym (append_assoc (take k out) (section_in begun before i ∷ []) (sections_from (begun || is_function i) (section_in begun before i) (drop (suc k) insts))))
 
 -- one instruction more was counted
 pub count-function : (insts : List Instruction) (k : ℕ) (i : Instruction) → k < length insts → slice_get insts k ≡ Some i → is_function i ≡ true → count_by is_function (take (k + 1) insts) ≡ count_by is_function (take k insts) + 1

@@ -1,14 +1,15 @@
 -- A list of instructions after more words were added behind them.
-use Rattle.std.proofs.Common.{◌≡◌, ℕ, ◌-◌, ◌≤◌, List, [], ◌∷◌, ◌++◌, length, get_or, take, drop, map, Option, Some, None, refl, sym, ap, subst, ◌∙◌, arith}
-use Rattle.std.specs.List.{All, AllByRecursion as ByRecursion, slice_get, slice_range}
+use Rattle.std.proofs.Common.{◌≡◌, ℕ, ◌-◌, ◌≤◌, List, [], ◌∷◌, ◌++◌, length, get_or, take, drop, map, Option, Some, None, inl, refl, sym, ap, subst, ◌∙◌, arith}
+use Rattle.std.specs.List.{All, AllPairs, AllByRecursion as ByRecursion, slice_get, slice_range}
 use Rattle.std.specs.Option.{option_map, unwrap_or}
 use Rattle.std.proofs.lemmas.List.{map-append, take-append-le, drop-append-le, take_all, drop_all, length-append, length-drop}
 use Rattle.std.proofs.lemmas.List.Elements.{All-push, recursion_from_All}
+use Rattle.std.proofs.lemmas.List.Quantifiers.{all_pairs_push}
 use Rattle.std.proofs.lemmas.Option.{slice_get-map, slice_get_within, get_or_from_slice_get}
 use Rattle.spv_grammar.specs.declared.kind.Role.{Role}
 use Rattle.spv_module.specs.declared.list.Span.{Span}
 use Rattle.spv_module.specs.Instruction.{Instruction, IsInstruction, parts, roles}
-use Rattle.spv_module.specs.List.{instruction_at, IsSpan}
+use Rattle.spv_module.specs.List.{instruction_at, AreApart, IsSpan}
 
 -- what stands before the end stays
 slice_range-append : {X : Type 0} (xs ys : List X) (a b : ℕ) → a ≤ b → b ≤ length xs → slice_range (xs ++ ys) a b ≡ slice_range xs a b
@@ -64,6 +65,12 @@ spans-added words words2 ws roles roles2 rs spans spans2 span a =
     rw (a.words_are, a.roles_are, a.spans_are)
     (All-push (IsSpan (words ++ ws) (roles ++ rs)) spans span (λ k d here. span_stays words ws roles rs (get_or spans k d) a.same (a.before k d here))
     (added_span words ws roles rs span a.same a.starts (a.ends ∙ ap length a.words_are) a.whole))
+
+-- no word of the one that was added belongs to another
+pub spans-apart : (words words2 ws : List ℕ) (roles roles2 rs : List Role) (spans spans2 : List Span) (span : Span) → Adds words words2 ws roles roles2 rs spans spans2 span → AllPairs AreApart spans → AllPairs AreApart spans2
+spans-apart words words2 ws roles roles2 rs spans spans2 span a apart =
+    rw a.spans_are
+    (all_pairs_push AreApart spans span apart (λ k d here. inl (omega (arith, (a.before k d here).within, a.starts))))
 
 instructions_stay : (words ws : List ℕ) (roles : List Role) (spans : List Span) → ByRecursion (IsSpan words roles) spans → map (instruction_at (words ++ ws)) spans ≡ map (instruction_at words) spans
 instructions_stay words ws roles [] all = refl

@@ -61,20 +61,19 @@ fn count_functions(insts: &InstList) -> usize
     functions
 }
 
-/// The section of each instruction.
-fn sections(alloc: Global, insts: &InstList) -> Result<Vec<u8>, NoMemory>
-    ensures { IfOk result (λ sections. sections.items ≡ sections_of insts.now) }
+/// Puts the section of each instruction into its place.
+fn put_sections(sections: &mut Vec<u8>, insts: &InstList)
+    requires { length sections.old.items ≡ length insts.now }
+    ensures { sections.new.items ≡ sections_of insts.now }
 {
-    let mut sections = Vec::new(alloc);
     let mut begun = false;
     let mut before = 1;
     'instructions: for k in 0..insts.count() {
         let inst = insts.at(k);
         before = section_of(begun, before, &inst);
-        sections.push(before)?;
+        sections[k] = before;
         begun = has_begun(begun, &inst);
     }
-    Ok(sections)
 }
 
 impl Flat {
@@ -83,12 +82,33 @@ impl Flat {
         requires { length insts < 2 ^ 32 }
         ensures { IfOk result (λ flat. flat ≡ record { header = header; insts = insts }) }
     {
-        let sections = sections(alloc, &insts)?;
-        Ok(Flat {
+        let mut sections = Vec::new(alloc);
+        sections.resize(insts.count(), 0)?;
+        Ok(Flat::from_parts(header, insts, sections))
+    }
+
+    /// The module of these instructions, of which there are fewer than 2^32, in a vector with room for the section of each.
+    pub fn from_parts(header: Header, insts: InstList, sections: Vec<u8>) -> Flat
+        requires few { length insts < 2 ^ 32 }
+        requires room { length sections.items ≡ length insts }
+        ensures { result ≡ record { header = header; insts = insts } }
+    {
+        let mut sections = sections;
+        put_sections(&mut sections, &insts);
+        Flat {
             header,
             insts,
             sections,
-        })
+        }
+    }
+
+    /// What the module is made of: its header, its instructions, and the vector of their sections.
+    pub fn into_parts(self) -> (Header, InstList, Vec<u8>)
+        ensures header { result.0 ≡ self.header }
+        ensures insts { result.1 ≡ self.insts }
+        ensures room { length result.2.items ≡ length self.insts }
+    {
+        (self.header, self.insts, self.sections)
     }
 
     /// The header.

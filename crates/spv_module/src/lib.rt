@@ -7,14 +7,15 @@ pub mod inst;
 mod instructions;
 pub mod layout;
 pub mod list;
-mod pool;
+pub mod pool;
 mod rules;
 pub mod view;
 
 pub use coding::{decode, encode};
 pub use flat::Flat;
 pub use inst::Inst;
-pub use list::InstList;
+pub use list::{InstList, Span};
+pub use pool::Pool;
 pub use spv_base::{ByteList, Fault, Header, Id, NoMemory, Refusal, Words};
 pub use view::View;
 

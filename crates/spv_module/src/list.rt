@@ -11,10 +11,10 @@ use std::marker::Model;
 #[derive(Clone, Copy, Debug)]
 pub struct Span {
     /// The place of its first word in the module that it was read from, in words.
-    offset: u32,
-    /// Its words are those of the list from `start` up to `end`.
-    start: usize,
-    end: usize,
+    pub offset: u32,
+    /// Its words are those of the pool from `start` up to `end`.
+    pub start: usize,
+    pub end: usize,
 }
 
 /// A list of instructions. It keeps their words one after the other.
@@ -25,15 +25,15 @@ pub struct InstList {
 }
 
 impl Model for InstList {
-    ghost use Rattle.std.specs.Prelude.{List, map, All};
+    ghost use Rattle.std.specs.Prelude.{List};
     ghost use Rattle.spv_module.specs.Instruction.{Instruction};
-    ghost use Rattle.spv_module.specs.List.{instruction_at, IsSpan};
+    ghost use Rattle.spv_module.specs.List.{instructions_in, AreSpans};
 
     ghost Value = { List Instruction };
 
-    ghost view = { λ list. map (instruction_at list.pool.words.items) list.spans.items };
+    ghost view = { λ list. instructions_in list.pool list.spans.items };
 
-    ghost invariant = { λ list. All (IsSpan list.pool.words.items list.pool.roles.items) list.spans.items };
+    ghost invariant = { λ list. AreSpans list.pool list.spans.items };
 }
 
 impl InstList {
@@ -41,6 +41,7 @@ impl InstList {
     ghost use Rattle.spv_module.specs.Instruction.{Instruction, IsInstruction, roles};
     ghost use Rattle.spv_module.specs.View.{seen};
     ghost use Rattle.spv_module.specs.Inst.{held};
+    ghost use Rattle.spv_module.specs.List.{instructions_in, AreSpans};
 
     /// The list with no instruction.
     pub fn new(alloc: Global) -> InstList
@@ -97,5 +98,21 @@ impl InstList {
     {
         let span = self.spans[k];
         self.pool.view(span.offset, span.start, span.end)
+    }
+
+    /// What the list is made of: its words, and where each instruction stands among them.
+    pub fn into_parts(self) -> (Pool, Vec<Span>)
+        ensures insts { instructions_in result.0 result.1.items ≡ self }
+        ensures spans { AreSpans result.0 result.1.items }
+    {
+        (self.pool, self.spans)
+    }
+
+    /// The instructions that stand in words, none of which belongs to two of them.
+    pub fn from_parts(pool: Pool, spans: Vec<Span>) -> InstList
+        requires { AreSpans pool spans.items }
+        ensures { result ≡ instructions_in pool spans.items }
+    {
+        InstList { pool, spans }
     }
 }

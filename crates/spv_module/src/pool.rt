@@ -14,7 +14,7 @@ pub struct Pool {
 }
 
 impl Pool {
-    ghost use Rattle.std.specs.Prelude.{[], ◌≤◌, ◌++◌, slice_range, OnOk, OnErr};
+    ghost use Rattle.std.specs.Prelude.{[], ◌≤◌, ◌<◌, ◌++◌, slice_range, slice_set, OnOk, OnErr};
     ghost use Rattle.spv_module.specs.Instruction.{IsInstruction};
 
     pub fn new(alloc: Global) -> Pool
@@ -56,5 +56,14 @@ impl Pool {
         ensures words { result.words.now ≡ slice_range self.now.words.items start end }
     {
         View::new(offset, &self.words[start..end], &self.roles[start..end])
+    }
+
+    /// Puts a word in the place of one, counted from 0.
+    pub fn put(&mut self, at: usize, word: u32)
+        requires { at < length self.old.words.items }
+        ensures words { self.new.words.items ≡ slice_set self.old.words.items at word }
+        ensures roles { self.new.roles.items ≡ self.old.roles.items }
+    {
+        self.words[at] = word;
     }
 }

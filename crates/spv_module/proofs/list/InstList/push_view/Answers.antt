@@ -2,7 +2,7 @@ use Rattle.std.proofs.Common.{◌∙◌, ap, List, [], ◌∷◌, ◌++◌}
 use Rattle.spv_module.specs.declared.list.Span.{Span}
 use Rattle.spv_module.specs.Instruction.{Instruction}
 use Rattle.spv_module.specs.View.{seen}
-use Rattle.spv_module.proofs.Spans.{Adds, spans-added, instructions-added}
+use Rattle.spv_module.proofs.Spans.{Adds, spans-added, spans-apart, instructions-added}
 use Rattle.spv_module.proofs.list.InstList.push_view.Goals as goal
 
 abbrev span : goal.In_ok-push → Span
@@ -18,11 +18,11 @@ added c = record {
   starts = c.count-start.ensures;
   ends = c.count.ensures;
   whole = c.args.inst.whole;
-  before = c.self.invariant;
+  before = c.self.invariant.whole;
 }
 
 pub invariant_of-self-2 : goal.invariant_of-self-2
-invariant_of-self-2 c = spans-added _ _ _ _ _ _ _ _ _ (added c)
+invariant_of-self-2 c = record { whole = spans-added _ _ _ _ _ _ _ _ _ (added c); apart = spans-apart _ _ _ _ _ _ _ _ _ (added c) c.self.invariant.apart }
 
 pub returns-clause-ok : goal.returns-clause-ok
 returns-clause-ok c = instructions-added _ _ _ _ _ _ _ _ _ (added c) ∙ ap (λ (list : List Instruction). list ++ seen c.args.inst ∷ []) c.self.view_is

@@ -1,9 +1,0 @@
-use Rattle.std.proofs.Common.{arith}
-use Rattle.spv_module.specs.View.{seen}
-use Rattle.spv_module.proofs.Sections.{sections-step}
-use Rattle.spv_module.proofs.flat.sections.Goals as goal
-
-pub instructions-preserved : goal.instructions-preserved
-instructions-preserved c =
-    sections-step c.args.insts.now c.instructions.sections.items c.push.new.self.items c.instructions.begun c.has_begun-begun.result c.instructions.before c.section_of-before.result c.instructions.k (seen c.at-inst.result)
-    c.instructions.invariant (omega arith) c.at-inst.ensures c.section_of-before.ensures c.in_ok-push.ensures.items c.has_begun-begun.ensures
