@@ -5,4 +5,3 @@ pub mod Soundness
 pub mod Shows
 pub mod Becoming
 pub mod Visits
-pub mod Samples

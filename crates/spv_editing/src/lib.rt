@@ -15,6 +15,3 @@ pub use facts::facts_of_editing;
 pub use laws::{edited_law, shown_law, sound_law};
 pub use visiting::visit;
 pub use visitor::Visitor;
-
-#[cfg(test)]
-mod tests;

@@ -1,9 +1,13 @@
 -- What is so of a module of the profile in normal form.
-use Rattle.std.proofs.Common.{◌≡◌, ℕ, ◌≤◌, List, length, None, sym, ap, subst, ◌∙◌, arith}
-use Rattle.spv_module.specs.Code.{Code, code_of, spelling}
+use Rattle.std.proofs.Common.{◌≡◌, ℕ, ◌<◌, ◌≤◌, List, length, count_by, None, refl, sym, ap, subst, ◌∙◌, arith}
+use Rattle.spv_base.specs.declared.fault.Fault.{Fault}
+use Rattle.spv_base.specs.declared.fault.Fault.TheVariants as faults
+use Rattle.spv_module.specs.Code.{Code, code_of, is_function, spelling}
 use Rattle.spv_module.specs.First.{first}
 use Rattle.spv_declarations.specs.Broken.{group_3}
+use Rattle.spv_blocks.specs.Cutting.{function_insts}
 use Rattle.spv_walk.specs.Rules.{IsFirst}
+use Rattle.spv_functions.specs.Functions.{Refuses, is_pointer}
 use Rattle.spv_control.specs.Control.{BrokenInSome, NestsTooDeep}
 use Rattle.spv_norm.specs.Norm.{IsNorm}
 use Rattle.spv_tree.specs.Tree.{words_of}
@@ -43,6 +47,13 @@ module _ (code : Code) (h : IsModule code) where
 
 pub modules_are_ready : ModulesAreReady
 modules_are_ready code h = ready code h
+
+-- the tree of a function is wanting only for want of memory
+pub body_wants_memory : (code : Code) → IsModule code → (f : ℕ) → f < count_by is_function code.insts → (fault : Fault) →
+    Refuses (is_pointer code.insts) (function_insts f code.insts) fault → fault ≡ faults.NoMemory
+body_wants_memory code h f is (faults.Refused refusal) least = absurd ((modules_are_ready code h).unbroken f is refusal.rule refusal.at least.broken)
+body_wants_memory code h f is faults.Nesting deep = absurd ((modules_are_ready code h).shallow f is deep)
+body_wants_memory code h f is faults.NoMemory _ = refl
 
 -- ---- admitted again
 

@@ -2,6 +2,7 @@ ghost use Rattle.std.specs.Prelude.{◌≡◌, ◌<◌, IfOk, count_by};
 ghost use Rattle.spv_module.specs.Code.{is_function};
 ghost use Rattle.spv_blocks.specs.Cutting.{function_insts};
 ghost use Rattle.spv_functions.specs.Functions.{AreFunctions, IsTree, is_pointer};
+ghost use Rattle.spv_base.specs.declared.fault.Fault.TheVariants as faults;
 
 use crate::holding::Module;
 use spv_base::{Fault, NoMemory};
@@ -10,8 +11,10 @@ use spv_tree::Body;
 use spv_types::{Tables, tables};
 use std::alloc::Global;
 
-/// A module is never refused (`module_law`), so memory was wanting.
-fn wanting(_fault: Fault) -> NoMemory {
+/// A module is never refused, so memory was wanting.
+fn wanting(fault: Fault) -> NoMemory
+    requires { fault ≡ faults.NoMemory }
+{
     NoMemory
 }
 
@@ -20,7 +23,10 @@ impl Module {
     pub fn tables(&self, alloc: Global) -> Result<Tables<'_>, NoMemory>
         ensures { IfOk result (λ tables. tables ≡ self.now.insts) }
     {
-        tables(alloc, self.flat()).map_err(wanting)
+        match tables(alloc, self.flat()) {
+            Ok(tables) => Ok(tables),
+            Err(fault) => Err(wanting(fault)),
+        }
     }
 
     /// The functions of the module, from which their trees are read.
@@ -36,6 +42,9 @@ impl Module {
         requires within { f < count_by is_function self.now.insts }
         ensures { IfOk result (λ body. IsTree (is_pointer self.now.insts) (function_insts f self.now.insts) body) }
     {
-        functions.parse(alloc, self.flat(), f).map_err(wanting)
+        match functions.parse(alloc, self.flat(), f) {
+            Ok(body) => Ok(body),
+            Err(fault) => Err(wanting(fault)),
+        }
     }
 }

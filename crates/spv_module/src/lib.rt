@@ -18,6 +18,3 @@ pub use list::{InstList, Span};
 pub use pool::Pool;
 pub use spv_base::{ByteList, Fault, Header, Id, NoMemory, Refusal, Words};
 pub use view::View;
-
-#[cfg(test)]
-mod tests;

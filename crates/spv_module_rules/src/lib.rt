@@ -6,6 +6,3 @@ pub mod laws;
 mod whole;
 
 pub use whole::check_whole;
-
-#[cfg(test)]
-mod tests;

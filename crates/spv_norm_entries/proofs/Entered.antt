@@ -148,4 +148,4 @@ module _ (insts again : List Instruction) (bodies : List Body) (h : IsReadAsTree
       }
 
 pub norm_is_entered : NormIsEntered
-norm_is_entered insts again bodies h n unbroken a typed entered = all_entered insts again bodies h n a typed entered
+norm_is_entered insts again bodies h n a typed entered = all_entered insts again bodies h n a typed entered

@@ -1,10 +1,8 @@
 -- The normal form of a module breaks none of the rules on calls, interfaces, bindings and entry points: a law, as a statement.
-use Rattle.std.specs.Prelude.{◌≡◌, ℕ, true, List, slice_get, Some, None}
+use Rattle.std.specs.Prelude.{◌≡◌, ℕ, true, List, slice_get, Some}
 use Rattle.std.specs.List.{Contains}
 use Rattle.spv_module.specs.Code.{is_function}
-use Rattle.spv_module.specs.First.{first}
 use Rattle.spv_module.specs.Instruction.{Instruction}
-use Rattle.spv_declarations.specs.Broken.{group_3}
 use Rattle.spv_signatures.specs.Functions.{function_fits}
 use Rattle.spv_entries.specs.Broken.{entry_rules}
 use Rattle.spv_calls.specs.Calls.{CallsFit}
@@ -29,5 +27,5 @@ FunctionsTyped insts = (k : ℕ) (i : Instruction) → slice_get insts k ≡ Som
 -- where no instruction of a module breaks one of these rules, none of its normal form does
 abbrev pub NormIsEntered : Type 0
 NormIsEntered =
-    (insts again : List Instruction) (bodies : List Body) → IsReadAsTrees insts bodies → IsNormAgain insts again → first (group_3 insts) ≡ None
+    (insts again : List Instruction) (bodies : List Body) → IsReadAsTrees insts bodies → IsNormAgain insts again
     → AreAlike insts again → FunctionsTyped insts → AllEntered insts → AllEntered again

@@ -177,7 +177,7 @@ module _ (words : List ℕ) (bodies : List Body) (norm : Code) (p : IsInProfile 
       missing
 
   entered_again : AllEntered again
-  entered_again = norm_is_entered insts again bodies read norm_again declared alike typed entered
+  entered_again = norm_is_entered insts again bodies read norm_again alike typed entered
 
   uncrowded_again : IsUncrowded again
   uncrowded_again = norm_is_uncrowded insts again bodies read norm_again uncrowded

@@ -19,6 +19,3 @@ pub use close::{Close, Fork, LoopEnd, Text};
 pub use front::{is_front, is_loop};
 pub use heading::Heading;
 pub use source::Source;
-
-#[cfg(test)]
-mod tests;

@@ -18,6 +18,3 @@ pub use rows::{Level, Rows};
 pub use spv_base::NoMemory;
 pub use walked::Walked;
 pub use walking::walk;
-
-#[cfg(test)]
-mod tests;
