@@ -1,6 +1,5 @@
 -- The places of definitions, read one instruction after the other, and what stands there.
 use Rattle.std.proofs.Common.{◌≡◌, ℕ, ◌+◌, ◌<◌, cond, List, [], ◌∷◌, ◌++◌, length, take, Option, Some, None, sym, ap, ◌∙◌, add-one, arith}
-use Rattle.std.specs.BTreeMap.{BTreeMap}
 use Rattle.std.specs.List.{slice_get}
 use Rattle.std.specs.Option.{option_map_or, option_or}
 use Rattle.std.proofs.Math.Seq.{take-suc}
@@ -15,7 +14,7 @@ take-at : (insts : List Instruction) (k : ℕ) (i : Instruction) → k < length 
 take-at insts k i fits at = rw add-one (take-suc insts k i fits ∙ ap (λ (j : Instruction). take k insts ++ j ∷ []) (get_or_from_slice_get insts k i i at))
 
 -- one instruction more
-pub has-more : (old new : BTreeMap ℕ ℕ) (insts : List Instruction) (k : ℕ) (i : Instruction) → HasPlaces old (take k insts) → AddsPlace old new k i → k < length insts → slice_get insts k ≡ Some i → HasPlaces new (take (k + 1) insts)
+pub has-more : (old new : List ℕ) (insts : List Instruction) (k : ℕ) (i : Instruction) → HasPlaces old (take k insts) → AddsPlace old new k i → k < length insts → slice_get insts k ≡ Some i → HasPlaces new (take (k + 1) insts)
 has-more old new insts k i has adds fits at =
     let count : length (take k insts) ≡ k = length-take-le k insts (omega arith) in
     record {

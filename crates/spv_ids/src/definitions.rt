@@ -1,11 +1,11 @@
-ghost use Rattle.std.specs.Prelude.{◌≡◌, OnOk, IfOk};
+ghost use Rattle.std.specs.Prelude.{◌≡◌, ◌<◌, ◌+◌, ◌^◌, OnOk, IfOk};
 ghost use Rattle.spv_module.specs.View.{seen};
 ghost use Rattle.spv_ids.specs.Places.{HasPlaces, AddsPlace};
 
+use crate::table::Numbers;
 use crate::words::{word, words_from};
 use spv_module::{Flat, InstList, NoMemory, View};
 use std::alloc::Global;
-use std::collections::BTreeMap;
 use std::marker::Model;
 
 /// Where each id of a module is first defined.
@@ -13,7 +13,7 @@ use std::marker::Model;
 pub struct Definitions<'a> {
     insts: &'a InstList,
     /// The number of the first instruction that defines an id, by the id.
-    places: BTreeMap<u32, u32>,
+    places: Numbers,
 }
 
 impl<'a> Model for Definitions<'a> {
@@ -29,24 +29,21 @@ impl<'a> Model for Definitions<'a> {
 }
 
 /// Adds what the k-th instruction defines, unless it is there.
-fn add_place(places: &mut BTreeMap<u32, u32>, k: u32, inst: &View) -> Result<(), NoMemory>
+fn add_place(places: &mut Numbers, k: u32, inst: &View) -> Result<(), NoMemory>
+    requires { k + 1 < 2 ^ 32 }
     ensures { OnOk result (AddsPlace places.old places.new k (seen inst.now)) }
 {
     let Some(id) = inst.result() else {
         return Ok(());
     };
-    let id = id.number();
-    if !places.contains_key(&id) {
-        places.insert(id, k).map_err(|_| NoMemory)?;
-    }
-    Ok(())
+    places.keep(id.number(), k)
 }
 
 /// The number of the first instruction that defines an id, by the id.
-fn places_of(alloc: Global, flat: &Flat) -> Result<BTreeMap<u32, u32>, NoMemory>
+fn places_of(alloc: Global, flat: &Flat) -> Result<Numbers, NoMemory>
     ensures { IfOk result (λ places. HasPlaces places flat.now.insts) }
 {
-    let mut places = BTreeMap::new(alloc);
+    let mut places = Numbers::new(alloc);
     'instructions: for k in 0..flat.count() {
         add_place(&mut places, k, &flat.at(k))?;
     }
@@ -79,7 +76,7 @@ impl<'a> Definitions<'a> {
     pub fn place(&self, id: u32) -> Option<u32>
         ensures { result ≡ place_of self.now id }
     {
-        self.places.get(&id).copied()
+        self.places.get(id)
     }
 
     /// The first instruction that defines an id.

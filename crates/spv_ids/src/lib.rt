@@ -4,6 +4,7 @@
 
 pub mod definitions;
 pub mod rules;
+mod table;
 pub mod words;
 
 pub use definitions::Definitions;
