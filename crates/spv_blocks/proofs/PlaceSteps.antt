@@ -1,16 +1,18 @@
 -- The places of labels and how often they are named, one block after the other.
 use Rattle.std.proofs.Common.{◌≡◌, ℕ, zero, suc, ◌+◌, ◌<◌, ◌≤◌, ◌==◌, Bool, true, false, cond, min, not, nat_lt, List, [], ◌∷◌, ◌++◌, length, get_or, take, map, Option, Some, None, refl, sym, ap, ◌∙◌, arith, add-one, append_assoc}
 use Rattle.std.proofs.Math.Seq.{take-suc}
-use Rattle.std.specs.BTreeMap.{BTreeMap}
 use Rattle.std.specs.List.{position_or_len, slice_get}
 use Rattle.std.specs.Option.{is_some, option_map, option_or, unwrap_or}
 use Rattle.std.proofs.lemmas.Bool.Decides.{nat_tests}
 use Rattle.std.proofs.lemmas.List.{map-append}
 use Rattle.spv_blocks.specs.declared.block.Ins.{Ins as DeclaredIns}
+use Rattle.spv_blocks.specs.declared.table.Table.{Table}
 use Rattle.spv_blocks.specs.Seen.{seen_ins}
 use Rattle.spv_blocks.proofs.Slices.{take-at}
 use Rattle.spv_blocks.specs.Blocks.{Ins, Block, Code, block, is_some_block, names, seconds, names_in, roles, times}
-use Rattle.spv_blocks.specs.Places.{place, number_of, HasPlaces, AddsPlace, HasNames, AddsNames}
+use Rattle.graph.proofs.Elements.{equal}
+use Rattle.spv_blocks.specs.Tables.{found}
+use Rattle.spv_blocks.specs.Places.{place, number_of, HasPlaces, KeepsPlace, HasNames, AddsNames}
 
 -- the number of the first block with a label, among blocks of which the first has the number n
 abbrev pub place_from : (n : ℕ) → Code → ℕ → Option ℕ
@@ -54,8 +56,19 @@ place-push n [] b l = let same : n ≡ n + 0 = omega arith in ap (λ k. cond (b.
 place-push n (c ∷ f) b l =
     one_on (c.label == l) (b.label == l) n ((n + 1) + length f) (n + suc (length f)) (place_from (n + 1) (f ++ b ∷ []) l) (place_from (n + 1) f l) (omega arith) (place-push (n + 1) f b l)
 
-pub places-more : (old new : BTreeMap ℕ ℕ) (f after : Code) (k : ℕ) (b : Block) → length f ≡ k → after ≡ f ++ b ∷ [] →
-    HasPlaces old f → AddsPlace old new k b.label → HasPlaces new after
+kept_one : (same : Bool) (k : ℕ) (o n : Option ℕ) → (same ≡ true → None ≡ o) → n ≡ cond same (Some k) o → n ≡ option_or o (cond same (Some k) None)
+kept_one true k o n none is = is ∙ ap (λ p. option_or p (Some k)) (none refl)
+kept_one false k None n none is = is
+kept_one false k (Some m) n none is = is
+
+-- a label that has no place gets one
+pub keeps : (old new : Table) (k label : ℕ) → None ≡ found old label → ((l : ℕ) → found new l ≡ cond (label == l) (Some k) (found old l)) → KeepsPlace old new k label
+keeps old new k label none puts = record {
+  at = λ l. kept_one (label == l) k (found old l) (found new l) (λ same. none ∙ ap (found old) (equal label l same)) (puts l);
+}
+
+pub places-more : (old new : Table) (f after : Code) (k : ℕ) (b : Block) → length f ≡ k → after ≡ f ++ b ∷ [] →
+    HasPlaces old f → KeepsPlace old new k b.label → HasPlaces new after
 places-more old new f after k b long more has adds = record {
   at = λ l.
       adds.at l
@@ -128,7 +141,7 @@ pub block-none : (f : Code) (l : ℕ) → None ≡ place f l → None ≡ block 
 block-none f l none = none_some (block f l) (ap is_some none ∙ label-place f l)
 
 -- two counts one after the other
-pub adds-both : (old mid new : BTreeMap ℕ ℕ) (one other both : ℕ → ℕ) → ((l : ℕ) → one l + other l ≡ both l) →
+pub adds-both : (old mid new : Table) (one other both : ℕ → ℕ) → ((l : ℕ) → one l + other l ≡ both l) →
     AddsNames old mid one → AddsNames mid new other → AddsNames old new both
 adds-both old mid new one other both sum first second = record {
   at = λ l n counted_so. let plus = sum l in
@@ -148,7 +161,7 @@ pub names_in-push : (is : List Ins) (i : Ins) (l : ℕ) → names_in is l + time
 names_in-push [] i l = omega arith
 names_in-push (j ∷ is) i l = let later = names_in-push is i l in omega arith
 
-pub body-more : (old mid new : BTreeMap ℕ ℕ) (body : List DeclaredIns) (k : ℕ) (i : DeclaredIns) → slice_get body k ≡ Some i →
+pub body-more : (old mid new : Table) (body : List DeclaredIns) (k : ℕ) (i : DeclaredIns) → slice_get body k ≡ Some i →
     AddsNames old mid (names_in (map seen_ins (take k body))) → AddsNames mid new (times (roles (seen_ins i))) →
     AddsNames old new (names_in (map seen_ins (take (k + 1) body)))
 body-more old mid new body k i at first second =
@@ -161,7 +174,7 @@ names-push : (f : Code) (b : Block) (l : ℕ) → names f l + names_in b.body l 
 names-push [] b l = omega arith
 names-push (c ∷ f) b l = let later = names-push f b l in omega arith
 
-pub names-more : (old new : BTreeMap ℕ ℕ) (f after : Code) (b : Block) → after ≡ f ++ b ∷ [] → HasNames old f → AddsNames old new (names_in b.body) → HasNames new after
+pub names-more : (old new : Table) (f after : Code) (b : Block) → after ≡ f ++ b ∷ [] → HasNames old f → AddsNames old new (names_in b.body) → HasNames new after
 names-more old new f after b more has adds = record {
   at = λ l. adds.at l (names f l) (has.at l) ∙ ap (λ n. min n 2) (names-push f b l ∙ ap (λ g. names g l) (sym more));
 }

@@ -4,3 +4,4 @@ pub mod Edges
 pub mod Laws
 pub mod Places
 pub mod Seen
+pub mod Tables

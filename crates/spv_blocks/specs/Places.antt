@@ -1,9 +1,11 @@
 -- Where the labels of a function stand, how often merge instructions name them, and where terminators lead, by the numbers of blocks.
-use Rattle.std.specs.Prelude.{◌≡◌, ℕ, ◌+◌, ◌&&◌, ◌==◌, Bool, cond, not, min, List, [], ◌∷◌, length, map, position, Option, Some, None}
+use Rattle.std.specs.Prelude.{◌≡◌, ℕ, ◌+◌, ◌&&◌, ◌==◌, Bool, cond, not, min, List, length, map, position, Option, Some, None}
 use Rattle.std.specs.BTreeMap.{BTreeMap, get}
 use Rattle.std.specs.Option.{option_or, unwrap_or}
 use Rattle.std.specs.Ordering.{nat_cmp}
+use Rattle.spv_blocks.specs.declared.table.Table.{Table}
 use Rattle.spv_blocks.specs.Blocks.{Block, Code, end_targets, is_label, is_first, names}
+use Rattle.spv_blocks.specs.Tables.{found}
 
 -- the number of the first block with a label, counted from 0
 abbrev pub place : Code → ℕ → Option ℕ
@@ -26,21 +28,25 @@ abbrev pub row_of : Code → Block → List ℕ
 row_of f b = map (number_of f) (end_targets b.end)
 
 -- a table has the places of the labels
-pub record HasPlaces (places : BTreeMap ℕ ℕ) (f : Code) : Type 0 where
-  pub at : (l : ℕ) → get nat_cmp places l ≡ place f l
+pub record HasPlaces (places : Table) (f : Code) : Type 0 where
+  pub at : (l : ℕ) → found places l ≡ place f l
 
--- the k-th block is added, unless one with its label is there
+-- the k-th block is kept, unless one with its label is there
+pub record KeepsPlace (old new : Table) (k label : ℕ) : Type 0 where
+  pub at : (l : ℕ) → found new l ≡ option_or (found old l) (cond (label == l) (Some k) None)
+
+-- a number is added to a map, unless it has one of the label
 pub record AddsPlace (old new : BTreeMap ℕ ℕ) (k label : ℕ) : Type 0 where
   pub at : (l : ℕ) → get nat_cmp new l ≡ option_or (get nat_cmp old l) (cond (label == l) (Some k) None)
 
 -- what a table of counts has of a label
-abbrev pub counted : BTreeMap ℕ ℕ → ℕ → ℕ
-counted counts l = unwrap_or (get nat_cmp counts l) 0
+abbrev pub counted : Table → ℕ → ℕ
+counted counts l = unwrap_or (found counts l) 0
 
 -- a table has the counts of the labels
-pub record HasNames (counts : BTreeMap ℕ ℕ) (f : Code) : Type 0 where
+pub record HasNames (counts : Table) (f : Code) : Type 0 where
   pub at : (l : ℕ) → counted counts l ≡ named f l
 
 -- to the count of each label is added how often it is named more
-pub record AddsNames (old new : BTreeMap ℕ ℕ) (more : ℕ → ℕ) : Type 0 where
+pub record AddsNames (old new : Table) (more : ℕ → ℕ) : Type 0 where
   pub at : (l n : ℕ) → counted old l ≡ min n 2 → counted new l ≡ min (n + more l) 2

@@ -1,12 +1,12 @@
-ghost use Rattle.std.specs.Prelude.{◌≡◌, OnOk, IfOk, map};
-ghost use Rattle.spv_blocks.specs.Places.{HasPlaces, AddsPlace};
+ghost use Rattle.std.specs.Prelude.{◌≡◌, ◌<◌, ◌+◌, ◌^◌, OnOk, IfOk, map};
+ghost use Rattle.spv_blocks.specs.Places.{HasPlaces, KeepsPlace};
 
 use crate::block::{Block, Construct};
 use crate::counting::{count_of, counts_of};
 use crate::function::Function;
+use crate::table::Table;
 use spv_base::NoMemory;
 use std::alloc::Global;
-use std::collections::BTreeMap;
 use std::marker::Model;
 
 /// The labels of a function: where they stand, and how often merge instructions name them. It borrows the function.
@@ -14,9 +14,9 @@ use std::marker::Model;
 pub struct Labels<'a> {
     function: &'a Function,
     /// The number of the first block with a label, by the label.
-    places: BTreeMap<u32, usize>,
+    places: Table,
     /// How often merge instructions name a label, up to two.
-    counts: BTreeMap<u32, u8>,
+    counts: Table,
 }
 
 impl<'a> Model for Labels<'a> {
@@ -31,20 +31,22 @@ impl<'a> Model for Labels<'a> {
 }
 
 /// Adds the place of a label, unless it is there.
-fn add_place(places: &mut BTreeMap<u32, usize>, k: usize, label: u32) -> Result<(), NoMemory>
-    ensures { OnOk result (AddsPlace places.old places.new k label) }
+fn add_place(places: &mut Table, k: usize, label: u32) -> Result<(), NoMemory>
+    requires { k + 1 < 2 ^ 64 }
+    ensures { OnOk result (KeepsPlace places.old places.new k label) }
 {
-    if !places.contains_key(&label) {
-        places.insert(label, k).map_err(|_| NoMemory)?;
-    }
+    let None = places.get(label) else {
+        return Ok(());
+    };
+    places.put(label, k)?;
     Ok(())
 }
 
 /// The number of the first block with a label, by the label.
-fn places_of(alloc: Global, function: &Function) -> Result<BTreeMap<u32, usize>, NoMemory>
+fn places_of(alloc: Global, function: &Function) -> Result<Table, NoMemory>
     ensures { IfOk result (λ places. HasPlaces places function.now) }
 {
-    let mut places = BTreeMap::new(alloc);
+    let mut places = Table::over(alloc, function)?;
     'each: for k in 0..function.count() {
         add_place(&mut places, k, function.block(k).label)?;
     }
@@ -96,7 +98,7 @@ impl<'a> Labels<'a> {
     pub fn place(&self, label: u32) -> Option<usize>
         ensures { result ≡ place_in self.now label }
     {
-        self.places.get(&label).copied()
+        self.places.get(label)
     }
 
     /// The number of the first block with a label, counted from 0. A label that no block has gets a number past all
@@ -114,7 +116,11 @@ impl<'a> Labels<'a> {
     pub fn named(&self, label: u32) -> u8
         ensures { result ≡ named_in self.now label }
     {
-        count_of(&self.counts, label)
+        match count_of(&self.counts, label) {
+            0 => 0,
+            1 => 1,
+            _ => 2,
+        }
     }
 
     /// Whether it is the label of a block.

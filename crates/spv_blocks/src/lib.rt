@@ -9,6 +9,7 @@ pub mod insts;
 pub mod labels;
 pub mod laws;
 mod parts;
+mod table;
 
 pub use block::{Block, Construct, End, Ins};
 pub use edges::Edges;
