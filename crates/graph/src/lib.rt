@@ -16,6 +16,3 @@ pub use reaching::{reach, reach_all};
 pub use reversing::reversed;
 pub use rows::Graph;
 pub use spv_base::NoMemory;
-
-#[cfg(test)]
-mod tests;

@@ -4,6 +4,3 @@
 mod ordering;
 
 pub use ordering::order;
-
-#[cfg(test)]
-mod tests;

@@ -11,6 +11,3 @@ pub use fault::{Fault, NoMemory, Refusal};
 pub use header::{Header, MAGIC, VERSION_1_6};
 pub use id::Id;
 pub use lists::{ByteList, Words};
-
-#[cfg(test)]
-mod tests;

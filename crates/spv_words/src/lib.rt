@@ -6,6 +6,3 @@ pub mod fault;
 
 pub use coding::{bytes_of, header, words_of};
 pub use fault::WordsFault;
-
-#[cfg(test)]
-mod tests;
