@@ -7,6 +7,4 @@ pub mod kind;
 pub mod operands;
 pub mod section;
 pub mod table;
-#[cfg(test)]
-mod tests;
 pub mod text;

@@ -17,6 +17,3 @@ pub use inst::Inst;
 pub use list::InstList;
 pub use spv_base::{ByteList, Fault, Header, Id, NoMemory, Refusal, Words};
 pub use view::View;
-
-#[cfg(test)]
-mod tests;
