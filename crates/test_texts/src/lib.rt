@@ -23,24 +23,48 @@ pub fn number(word: &str) -> Result<u32, Unread> {
     read.map_err(|_| Unread::NoNumber)
 }
 
+/// The number that a word stands for: the word itself, or where it is a name that of the name in a list, which has one
+/// name a line, as `name = number`.
+pub fn meaning(names: &str, word: &str) -> Result<u32, Unread> {
+    if word.starts_with(|c: char| c.is_ascii_digit()) {
+        return number(word);
+    }
+    for line in names.lines() {
+        if let Some((name, meant)) = case(line)? {
+            if name == word {
+                return number(meant);
+            }
+        }
+    }
+    Err(Unread::NoNumber)
+}
+
 /// Adds the numbers of a line, which are split by blanks, up to a `;`, behind which the line is a remark.
-fn add_line(numbers: &mut Vec<u32>, line: &str) -> Result<(), Unread> {
+fn add_line(numbers: &mut Vec<u32>, names: &str, line: &str) -> Result<(), Unread> {
     for word in line.split_ascii_whitespace() {
         if word.starts_with(';') {
             return Ok(());
         }
-        numbers.push(number(word)?).map_err(|_| Unread::NoMemory)?;
+        numbers
+            .push(meaning(names, word)?)
+            .map_err(|_| Unread::NoMemory)?;
     }
     Ok(())
 }
 
-/// The numbers of a text, split by blanks and ends of lines. What stands behind a `;` in a line is a remark.
-pub fn numbers(alloc: Global, text: &str) -> Result<Vec<u32>, Unread> {
+/// The numbers of a text, split by blanks and ends of lines, some of which have names. What stands behind a `;` in a line is
+/// a remark.
+pub fn words(alloc: Global, names: &str, text: &str) -> Result<Vec<u32>, Unread> {
     let mut numbers = Vec::new(alloc);
     for line in text.lines() {
-        add_line(&mut numbers, line)?;
+        add_line(&mut numbers, names, line)?;
     }
     Ok(numbers)
+}
+
+/// The numbers of a text without names.
+pub fn numbers(alloc: Global, text: &str) -> Result<Vec<u32>, Unread> {
+    words(alloc, "", text)
 }
 
 /// The two sides of a case, which a line writes as `given = wanted`, with a remark behind a `;` where there is one. A line
