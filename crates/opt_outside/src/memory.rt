@@ -316,6 +316,3 @@ impl Outside for Memory {
         Ok(n)
     }
 }
-
-#[cfg(test)]
-mod tests;

@@ -12,6 +12,3 @@ mod words;
 
 pub use evaluation::{eval, ext_eval};
 pub use words::{Answered, Operand};
-
-#[cfg(test)]
-mod tests;

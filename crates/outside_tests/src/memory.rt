@@ -1,4 +1,5 @@
-use super::*;
+use opt_outside::{CallKind, Memory, NoMemory, Outside};
+use std::alloc::Global;
 use std::test::Fail;
 
 /// A memory that holds one file under the name `in`.
@@ -104,82 +105,124 @@ fn moved(alloc: Global, chunk: u32) -> Result<[Option<usize>; 4], NoMemory> {
 fn moves_bytes_by_chunks(rt: HostRuntime) -> Result<(), Fail> {
     let one = Some(1);
     let three = Some(3);
-    assert_eq!(rt; moved(rt.alloc(), 1)?, [one, one, one, one]);
-    assert_eq!(rt; moved(rt.alloc(), 3)?, [three, Some(2), three, three]);
-    assert_eq!(rt;
-        moved(rt.alloc(), 64)?,
-        [Some(5), Some(0), Some(5), Some(5)]
+    assert!(rt;
+        moved(rt.alloc(), 1)? == [one, one, one, one]
+            && moved(rt.alloc(), 3)? == [three, Some(2), three, three]
+            && moved(rt.alloc(), 64)? == [Some(5), Some(0), Some(5), Some(5)]
     );
     Ok(())
 }
 
-#[test]
-fn reads_an_input_to_its_end(rt: HostRuntime) -> Result<(), Fail> {
-    let mut memory = with_input(rt.alloc(), 3, b"hello")?;
+/// Whether an input is read by three bytes, the second time to its end.
+fn is_read(alloc: Global) -> Result<bool, NoMemory> {
+    let mut memory = with_input(alloc, 3, b"hello")?;
     let mut buf = *b"........";
-    assert!(rt; opens(&mut memory, "in"));
+    let opened = opens(&mut memory, "in");
     let _ = reads(&mut memory, &mut buf);
-    assert_eq!(rt; buf.as_slice(), b"hel.....".as_slice());
+    let first = buf;
     let _ = reads(&mut memory, &mut buf);
-    assert_eq!(rt; buf.as_slice(), b"lol.....".as_slice());
-    Ok(())
+    Ok(
+        opened
+            && first.as_slice() == b"hel.....".as_slice()
+            && buf.as_slice() == b"lol.....".as_slice(),
+    )
 }
 
 #[test]
-fn keeps_the_output_opened_last(rt: HostRuntime) -> Result<(), Fail> {
-    let mut memory = with_input(rt.alloc(), 3, b"")?;
+fn reads_an_input_to_its_end(rt: HostRuntime) -> Result<(), Fail> {
+    assert!(rt; is_read(rt.alloc())?);
+    Ok(())
+}
+
+/// Whether of two outputs the last is kept.
+fn is_last_kept(alloc: Global) -> Result<bool, NoMemory> {
+    let mut memory = with_input(alloc, 3, b"")?;
     let before = memory.opened();
     let _ = creates(&mut memory, "first");
     let _ = writes(&mut memory, b"gone");
     let _ = creates(&mut memory, "second");
     let _ = writes(&mut memory, b"kept here");
     let _ = writes(&mut memory, b"!");
-    assert!(rt; !before && memory.opened());
-    assert_eq!(rt; memory.written(), b"kep!".as_slice());
-    Ok(())
+    Ok(!before && memory.opened() && memory.written() == b"kep!".as_slice())
 }
 
 #[test]
-fn keeps_what_is_told_and_asked(rt: HostRuntime) -> Result<(), Fail> {
-    let mut memory = with_input(rt.alloc(), 2, b"")?;
+fn keeps_the_output_opened_last(rt: HostRuntime) -> Result<(), Fail> {
+    assert!(rt; is_last_kept(rt.alloc())?);
+    Ok(())
+}
+
+/// Whether what is told and asked is kept.
+fn is_told_kept(alloc: Global) -> Result<bool, NoMemory> {
+    let mut memory = with_input(alloc, 2, b"")?;
     let _ = opens(&mut memory, "in");
     let _ = creates(&mut memory, "out");
     let _ = tells(&mut memory, b"not");
     let _ = tells(&mut memory, b"te");
-    assert_eq!(rt; memory.told(), b"note".as_slice());
-    assert_eq!(rt; memory.written(), b"".as_slice());
     let asked = memory.asked();
-    assert_eq!(rt; asked.len(), 2);
-    assert_eq!(rt; asked[0].as_str(), "in");
-    assert_eq!(rt; asked[1].as_str(), "out");
+    Ok(
+        memory.told() == b"note".as_slice()
+            && memory.written() == b"".as_slice()
+            && asked.len() == 2
+            && asked[0].as_str() == "in"
+            && asked[1].as_str() == "out",
+    )
+}
+
+#[test]
+fn keeps_what_is_told_and_asked(rt: HostRuntime) -> Result<(), Fail> {
+    assert!(rt; is_told_kept(rt.alloc())?);
     Ok(())
+}
+
+/// Whether an absent input is refused, and the one before it is read on.
+fn is_absent_refused(alloc: Global) -> Result<bool, NoMemory> {
+    let mut memory = with_input(alloc, 1, b"ab")?;
+    let mut buf = [0; 2];
+    let _ = opens(&mut memory, "in");
+    let _ = reads(&mut memory, &mut buf);
+    let absent = opens(&mut memory, "absent");
+    let told = counts(&memory);
+    let _ = reads(&mut memory, &mut buf);
+    Ok(!absent && told == (1, 0, 0, 0) && buf.as_slice() == b"b\0".as_slice())
 }
 
 #[test]
 fn refuses_an_absent_input(rt: HostRuntime) -> Result<(), Fail> {
-    let mut memory = with_input(rt.alloc(), 1, b"ab")?;
-    let mut buf = [0; 2];
-    let _ = opens(&mut memory, "in");
-    let _ = reads(&mut memory, &mut buf);
-    assert!(rt; !opens(&mut memory, "absent"));
-    assert_eq!(rt; counts(&memory), (1, 0, 0, 0));
-    let _ = reads(&mut memory, &mut buf);
-    assert_eq!(rt; buf.as_slice(), b"b\0".as_slice());
+    assert!(rt; is_absent_refused(rt.alloc())?);
     Ok(())
 }
 
-#[test]
-fn adds_in_place_of_an_earlier_file(rt: HostRuntime) -> Result<(), Fail> {
-    let mut memory = with_input(rt.alloc(), 64, b"old")?;
+/// Whether a file that is added takes the place of an earlier one, once it is opened.
+fn is_in_place(alloc: Global) -> Result<bool, NoMemory> {
+    let mut memory = with_input(alloc, 64, b"old")?;
     let mut buf = [0; 3];
     let _ = opens(&mut memory, "in");
     memory.add("in", b"new")?;
     let _ = reads(&mut memory, &mut buf);
-    assert_eq!(rt; buf.as_slice(), b"old".as_slice());
+    let first = buf;
     let _ = opens(&mut memory, "in");
     let _ = reads(&mut memory, &mut buf);
-    assert_eq!(rt; buf.as_slice(), b"new".as_slice());
+    Ok(first.as_slice() == b"old".as_slice() && buf.as_slice() == b"new".as_slice())
+}
+
+#[test]
+fn adds_in_place_of_an_earlier_file(rt: HostRuntime) -> Result<(), Fail> {
+    assert!(rt; is_in_place(rt.alloc())?);
     Ok(())
+}
+
+/// Whether of the calls of a kind that one fails that is to fail, with these counts after it.
+fn is_failing(
+    alloc: Global,
+    kind: CallKind,
+    wanted: (u64, u64, u64, u64),
+) -> Result<bool, NoMemory> {
+    Ok(
+        failing(alloc, kind, 1)? == ([true, false, false, false], wanted)
+            && failing(alloc, kind, 3)? == ([false, false, true, false], wanted)
+            && listed_late(alloc, kind)? == [false, false, true, false],
+    )
 }
 
 #[test]
@@ -191,12 +234,7 @@ fn fails_the_call_of_that_number(rt: HostRuntime) -> Result<(), Fail> {
         (CallKind::Write, (0, 1, 0, 0)),
         (CallKind::Tell, (0, 0, 1, 0)),
     ] {
-        let first = failing(rt.alloc(), kind, 1)?;
-        assert!(rt; first == ([true, false, false, false], wanted), "{kind:?}");
-        let third = failing(rt.alloc(), kind, 3)?;
-        assert!(rt; third == ([false, false, true, false], wanted), "{kind:?}");
-        let late = listed_late(rt.alloc(), kind)?;
-        assert!(rt; late == [false, false, true, false], "{kind:?}");
+        assert!(rt; is_failing(rt.alloc(), kind, wanted)?, "{kind:?}");
     }
     Ok(())
 }
@@ -218,15 +256,19 @@ fn fails_no_call_of_another_kind(rt: HostRuntime) -> Result<(), Fail> {
     Ok(())
 }
 
-#[test]
-fn keeps_what_was_written_when_a_call_fails(rt: HostRuntime) -> Result<(), Fail> {
-    let mut memory = with_input(rt.alloc(), 64, b"")?;
+/// Whether what was written is kept where a later call fails.
+fn is_written_kept(alloc: Global) -> Result<bool, NoMemory> {
+    let mut memory = with_input(alloc, 64, b"")?;
     memory.fail(CallKind::OpenOutput, 2)?;
     memory.fail(CallKind::Write, 2)?;
     let _ = creates(&mut memory, "out");
     let _ = writes(&mut memory, b"kept");
-    assert!(rt; writes(&mut memory, b"lost").is_none() && !creates(&mut memory, "out"));
-    assert_eq!(rt; memory.written(), b"kept".as_slice());
-    assert_eq!(rt; counts(&memory), (0, 2, 0, 0));
+    let lost = writes(&mut memory, b"lost").is_none() && !creates(&mut memory, "out");
+    Ok(lost && memory.written() == b"kept".as_slice() && counts(&memory) == (0, 2, 0, 0))
+}
+
+#[test]
+fn keeps_what_was_written_when_a_call_fails(rt: HostRuntime) -> Result<(), Fail> {
+    assert!(rt; is_written_kept(rt.alloc())?);
     Ok(())
 }
