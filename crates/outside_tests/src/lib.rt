@@ -1,0 +1,5 @@
+//! Tests of the outside that is kept in memory.
+#![tactic(auto)]
+
+#[cfg(test)]
+mod memory;
