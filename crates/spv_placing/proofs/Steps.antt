@@ -61,3 +61,7 @@ size-more insts k i h e =
       length-append (flat_map (λ (j : Instruction). j.words) (take k insts)) (flat_map (λ (j : Instruction). j.words) (i ∷ [])),
       ap length (append-nil i.words),
     )
+
+pub placed_words : (at : ℕ) (insts : List Instruction) → flat_map (λ (i : Instruction). i.words) (placed_from at insts) ≡ flat_map (λ (i : Instruction). i.words) insts
+placed_words at [] = refl
+placed_words at (i ∷ is) = ap (λ (ws : List ℕ). i.words ++ ws) (placed_words (at + length i.words) is)

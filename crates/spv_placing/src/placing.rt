@@ -46,7 +46,8 @@ fn place_all(pool: &Pool, spans: &mut Vec<Span>)
 /// The module that the words of a module spell: its instructions stand one behind the other. It takes no memory.
 pub fn placed(flat: Flat) -> Flat
     requires { length (spelling flat) < 2 ^ 32 }
-    ensures { result ≡ code_of (spelling flat) }
+    ensures same { result ≡ code_of (spelling flat) }
+    ensures small { length (spelling result) < 2 ^ 32 }
 {
     let (header, insts, sections) = flat.into_parts();
     let (pool, mut spans) = insts.into_parts();
