@@ -1,4 +1,4 @@
-ghost use Rattle.std.specs.Prelude.{◌≡◌, ◌<◌, ◌^◌, cond};
+ghost use Rattle.std.specs.Prelude.{◌≡◌, ◌<◌, ◌^◌, cond, nat_lt};
 ghost use Rattle.spv_grammar.specs.Roles.{names_id};
 ghost use Rattle.spv_module.specs.View.{seen};
 ghost use Rattle.spv_draft.specs.Named.{bound_of_ids, greatest, named_ids, words_with};
@@ -44,4 +44,12 @@ pub fn bound_of(lines: &Lines) -> u32
     ensures { result ≡ bound_of_ids lines.now }
 {
     greatest_of(lines) + 1
+}
+
+/// Whether the bound of instructions is a word: whether none of them names the greatest id.
+#[tactic(auto, unfolding(crate::specs::Named::bound_of_ids))]
+pub fn is_bounded(lines: &Lines) -> bool
+    ensures { result ≡ nat_lt (bound_of_ids lines.now) (2 ^ 32) }
+{
+    greatest_of(lines) < u32::MAX
 }

@@ -1,7 +1,7 @@
 ghost use Rattle.std.specs.Prelude.{◌≡◌, ◌+◌, ◌<◌, ◌≤◌, ◌^◌, ◌++◌, ◌∷◌, [], length, IfOk, OnOk, OnErr};
 ghost use Rattle.spv_module.specs.View.{seen};
 
-use crate::bound::bound_of;
+use crate::bound::{bound_of, is_bounded};
 use crate::fresh::{IdFault, Index, MOST_ID, next_free, with_names};
 use crate::functions::put_function;
 use crate::lines::Lines;
@@ -59,7 +59,7 @@ fn make_room(sections: &mut Vec<u8>, count: usize) -> Result<(), NoMemory>
 }
 
 impl Draft {
-    ghost use Rattle.std.specs.Prelude.{[], Some, count_by, slice_get, slice_set, OnOk, OnErr};
+    ghost use Rattle.std.specs.Prelude.{[], Some, count_by, nat_lt, slice_get, slice_set, OnOk, OnErr};
     ghost use Rattle.std.specs.List.{insert as inserted, remove as removed};
     ghost use Rattle.spv_module.specs.Inst.{held};
     ghost use Rattle.spv_draft.specs.Drafted.{finished, size_in, taken_ids};
@@ -191,6 +191,13 @@ impl Draft {
             Some(index) => Ok(index),
             None => Index::of(self.lines.alloc(), &self.lines, &self.given),
         }
+    }
+
+    /// Whether the draft may be finished: whether one more than the greatest id that its instructions name is below 2^32.
+    pub fn is_bounded(&self) -> bool
+        ensures { result ≡ nat_lt (bound_of_ids self.now.insts) (2 ^ 32) }
+    {
+        is_bounded(&self.lines)
     }
 
     /// The module, with the bound that is one more than the greatest id that its instructions name.
