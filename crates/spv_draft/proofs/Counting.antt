@@ -1,18 +1,17 @@
 -- How often ids stand in lists, one id or one instruction after the other.
-use Rattle.std.proofs.Common.{◌≡◌, ℕ, zero, suc, ◌+◌, ◌<◌, ◌≤◌, Bool, true, false, cond, max, ◌==◌, List, [], ◌∷◌, ◌++◌, length, get_or, take, map, filter}
+use Rattle.std.proofs.Common.{◌≡◌, ℕ, zero, suc, ◌+◌, ◌<◌, ◌≤◌, Bool, true, false, cond, max, ◌==◌, List, [], ◌∷◌, ◌++◌, length, get_or, take, map, filter, Some}
 use Rattle.std.proofs.Common.{refl, sym, ap, ◌∙◌, arith, add-one}
 use Rattle.std.specs.List.{zip}
 use Rattle.spv_grammar.specs.declared.kind.Role.{Role}
 use Rattle.spv_draft.specs.declared.tally.Tally.{Tally}
-use Rattle.std.specs.List.{flat_map}
+use Rattle.std.specs.List.{flat_map, slice_get}
 use Rattle.std.proofs.Math.Seq.{take-suc}
 use Rattle.std.proofs.lemmas.List.{append-nil, map-append, take_all}
 use Rattle.std.proofs.lemmas.List.Concat.{flat_map-append}
 use Rattle.spv_module.specs.Instruction.{Instruction, IsInstruction, parts}
-use Rattle.spv_draft.specs.declared.line.Line.{Line}
-use Rattle.spv_draft.specs.Lines.{told}
 use Rattle.spv_draft.specs.Named.{greatest, times, words_with}
 use Rattle.spv_draft.specs.Tallies.{Adds, Counts, tallied}
+use Rattle.spv_draft.proofs.Lists.{take-at}
 
 times_step : (b : Bool) (n m : ℕ) → cond b (n + m + 1) (n + m) ≡ cond b (n + 1) n + m
 times_step true n m = omega arith
@@ -85,28 +84,22 @@ picked-all test i rs n e whole =
     ∙ ap (λ (roles : List Role). map (λ (p : Role × ℕ). p.1) (filter (λ (p : Role × ℕ). test p.0) (zip roles i.words))) (sym (ap parts whole.parted))
 
 -- one instruction more
-pub told-more : (lines : List Line) (k : ℕ) (line : Line) → k < length lines → line ≡ get_or lines k line
-    → map told (take (k + 1) lines) ≡ map told (take k lines) ++ told line ∷ []
-told-more lines k line h at =
-    ap (map told) (rw add-one (take-suc lines k line h) ∙ ap (λ (l : Line). take k lines ++ l ∷ []) (sym at))
-    ∙ map-append told (take k lines) (line ∷ [])
+flat-more : (f : Instruction → List ℕ) (insts : List Instruction) (k : ℕ) (i : Instruction) → k < length insts → slice_get insts k ≡ Some i
+    → flat_map f (take (k + 1) insts) ≡ flat_map f (take k insts) ++ f i
+flat-more f insts k i h at =
+    ap (flat_map f) (take-at insts k i h at)
+    ∙ flat_map-append f (take k insts) (i ∷ [])
+    ∙ ap (λ xs. flat_map f (take k insts) ++ xs) (append-nil (f i))
 
-flat-more : (f : Instruction → List ℕ) (insts after : List Instruction) (i j : Instruction) → i ≡ j → after ≡ insts ++ j ∷ []
-    → flat_map f after ≡ flat_map f insts ++ f i
-flat-more f insts after i j same e =
-    ap (flat_map f) e ∙ flat_map-append f insts (j ∷ []) ∙ ap (λ xs. flat_map f insts ++ xs) (append-nil (f j) ∙ ap f (sym same))
-
-pub counts-more : (f : Instruction → List ℕ) (old new : Tally) (lines : List Line) (k : ℕ) (line : Line) (i : Instruction) → k < length lines
-    → line ≡ get_or lines k line → i ≡ told line →
-    Counts old (flat_map f (map told (take k lines))) → Adds old new (f i) → Counts new (flat_map f (map told (take (k + 1) lines)))
-counts-more f old new lines k line i h at same first second = record {
+pub counts-more : (f : Instruction → List ℕ) (old new : Tally) (insts : List Instruction) (k : ℕ) (i : Instruction) → k < length insts
+    → slice_get insts k ≡ Some i → Counts old (flat_map f (take k insts)) → Adds old new (f i) → Counts new (flat_map f (take (k + 1) insts))
+counts-more f old new insts k i h at first second = record {
   at = λ id.
-      let front = flat_map f (map told (take k lines)) in
+      let front = flat_map f (take k insts) in
       let a = first.at id in
       let b = second.at id in
       let sum = times-append id front (f i) in
-      let all : times id (flat_map f (map told (take (k + 1) lines))) ≡ times id (front ++ f i) =
-      ap (times id) (flat-more f (map told (take k lines)) (map told (take (k + 1) lines)) i (told line) same (told-more lines k line h at)) in
+      let all : times id (flat_map f (take (k + 1) insts)) ≡ times id (front ++ f i) = ap (times id) (flat-more f insts k i h at) in
       omega (arith, a, b, sum, all);
 }
 
@@ -134,9 +127,6 @@ greatest-picked test rs ws k d h e =
     ∙ sym (greatest-append (picked test (take k rs) (take k ws)) (cond (test (get_or rs k d)) (get_or ws k 0 ∷ []) []))
     ∙ ap greatest (sym (rw add-one (picked-more test rs ws k d h e)))
 
-pub greatest-more : (f : Instruction → List ℕ) (lines : List Line) (k : ℕ) (line : Line) (i : Instruction) → k < length lines → line ≡ get_or lines k line
-    → i ≡ told line →
-    max (greatest (flat_map f (map told (take k lines)))) (greatest (f i)) ≡ greatest (flat_map f (map told (take (k + 1) lines)))
-greatest-more f lines k line i h at same =
-    sym (greatest-append (flat_map f (map told (take k lines))) (f i))
-    ∙ ap greatest (sym (flat-more f (map told (take k lines)) (map told (take (k + 1) lines)) i (told line) same (told-more lines k line h at)))
+pub greatest-more : (f : Instruction → List ℕ) (insts : List Instruction) (k : ℕ) (i : Instruction) → k < length insts → slice_get insts k ≡ Some i
+    → max (greatest (flat_map f (take k insts))) (greatest (f i)) ≡ greatest (flat_map f (take (k + 1) insts))
+greatest-more f insts k i h at = sym (greatest-append (flat_map f (take k insts)) (f i)) ∙ ap greatest (sym (flat-more f insts k i h at))

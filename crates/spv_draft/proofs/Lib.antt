@@ -1,5 +1,6 @@
 pub mod RolesStay
 pub mod Lists
+pub mod Pools
 pub mod Counting
 pub mod PutWhole
 pub mod Replaced

@@ -1,116 +1,89 @@
 -- Lists of instructions in which one is put in, taken out or replaced, and how many words they have.
-use Rattle.std.proofs.Common.{◌≡◌, ℕ, zero, suc, ◌+◌, ◌-◌, ◌<◌, ◌≤◌, List, [], ◌∷◌, ◌++◌, length, get_or, take, map, Some, refl, sym, ap, ◌∙◌, arith, add-one}
+use Rattle.std.proofs.Common.{◌≡◌, ℕ, zero, suc, ◌+◌, ◌-◌, ◌<◌, ◌≤◌, List, [], ◌∷◌, ◌++◌, length, get_or, take, drop, map, Some, refl, sym, ap, ◌∙◌, arith, add-one}
 use Rattle.std.specs.List.{slice_get, flat_map, insert, remove, slice_set}
 use Rattle.std.proofs.Math.Seq.{take-suc}
-use Rattle.std.proofs.lemmas.List.{length-append, length-map}
+use Rattle.std.proofs.lemmas.List.{length-append}
+use Rattle.std.proofs.lemmas.List.Concat.{flat_map-append}
 use Rattle.std.proofs.lemmas.Option.{get_or_from_slice_get}
-use Rattle.spv_draft.specs.declared.line.Line.{Line}
 use Rattle.spv_module.specs.Instruction.{Instruction}
-use Rattle.spv_draft.specs.Lines.{told}
 use Rattle.spv_draft.specs.Drafted.{size_in}
 
 -- one element more
 pub take-at : {X : Type 0} (xs : List X) (k : ℕ) (x : X) → k < length xs → slice_get xs k ≡ Some x → take (k + 1) xs ≡ take k xs ++ x ∷ []
 take-at xs k x fits at = rw add-one (take-suc xs k x fits ∙ ap (λ y. take k xs ++ y ∷ []) (get_or_from_slice_get xs k x x at))
 
--- the lines before and behind a place, seen as instructions; induction on the lines
-pub told-insert : (lines : List Line) (k : ℕ) (line : Line) → map told (insert lines k line) ≡ insert (map told lines) k (told line)
-told-insert [] zero line = refl
-told-insert [] (suc k) line = refl
-told-insert (l ∷ lines) zero line = refl
-told-insert (l ∷ lines) (suc k) line = ap (λ is. told l ∷ is) (told-insert lines k line)
+-- what is replaced stands between what is before and what is behind it
+pub set-split : {X : Type 0} (xs : List X) (k : ℕ) (x : X) → k < length xs → slice_set xs k x ≡ take k xs ++ x ∷ drop (suc k) xs
+set-split [] k x h = absurd (omega (arith, h))
+set-split (y ∷ ys) zero x h = refl
+set-split (y ∷ ys) (suc k) x h = ap (λ zs. y ∷ zs) (set-split ys k x (omega (arith, h)))
 
-pub told-remove : (lines : List Line) (k : ℕ) → map told (remove lines k) ≡ remove (map told lines) k
-told-remove [] zero = refl
-told-remove [] (suc k) = refl
-told-remove (l ∷ lines) zero = refl
-told-remove (l ∷ lines) (suc k) = ap (λ is. told l ∷ is) (told-remove lines k)
+pub get-split : {X : Type 0} (xs : List X) (k : ℕ) (x : X) → slice_get xs k ≡ Some x → xs ≡ take k xs ++ x ∷ drop (suc k) xs
+get-split [] k x e = absurd (cc e)
+get-split (y ∷ ys) zero x e = let same : y ≡ x = cc e in ap (λ z. z ∷ ys) same
+get-split (y ∷ ys) (suc k) x e = ap (λ zs. y ∷ zs) (get-split ys k x e)
 
-pub told-set : (lines : List Line) (k : ℕ) (line : Line) → map told (slice_set lines k line) ≡ slice_set (map told lines) k (told line)
-told-set [] zero line = refl
-told-set [] (suc k) line = refl
-told-set (l ∷ lines) zero line = refl
-told-set (l ∷ lines) (suc k) line = ap (λ is. told l ∷ is) (told-set lines k line)
+pub length-inserted : {X : Type 0} (xs : List X) (k : ℕ) (x : X) → length (insert xs k x) ≡ length xs + 1
+length-inserted [] zero x = refl
+length-inserted [] (suc k) x = refl
+length-inserted (y ∷ ys) zero x = omega arith
+length-inserted (y ∷ ys) (suc k) x = omega (arith, length-inserted ys k x)
 
-abbrev pub words_of : List Line → ℕ
-words_of lines = length (flat_map (λ (i : Instruction). i.words) (map told lines))
+abbrev pub words_of : List Instruction → ℕ
+words_of insts = length (flat_map (λ (i : Instruction). i.words) insts)
 
--- each instruction has a word
-pub counted : (lines : List Line) → length lines ≤ words_of lines
-counted [] = omega arith
-counted (l ∷ lines) =
-    let later = counted lines in
-    let some = l.whole.some in
-    omega (arith, length-append l.words.items (flat_map (λ (i : Instruction). i.words) (map told lines)))
+pub words-append : (is js : List Instruction) → words_of (is ++ js) ≡ words_of is + words_of js
+words-append is js =
+    ap length (flat_map-append (λ (i : Instruction). i.words) is js)
+    ∙ length-append (flat_map (λ (i : Instruction). i.words) is) (flat_map (λ (i : Instruction). i.words) js)
 
-cons_words : (l : Line) (lines : List Line) → words_of (l ∷ lines) ≡ length l.words.items + words_of lines
-cons_words l lines = length-append l.words.items (flat_map (λ (i : Instruction). i.words) (map told lines))
+pub words-cons : (i : Instruction) (is : List Instruction) → words_of (i ∷ is) ≡ length i.words + words_of is
+words-cons i is = length-append i.words (flat_map (λ (i : Instruction). i.words) is)
 
--- induction on the lines before the place
-words-insert : (lines : List Line) (k : ℕ) (line : Line) → k ≤ length lines → words_of (insert lines k line) ≡ words_of lines + length line.words.items
-words-insert [] zero line h = omega (arith, cons_words line [])
-words-insert [] (suc k) line h = absurd (omega (arith, h))
-words-insert (l ∷ lines) zero line h = omega (arith, cons_words line (l ∷ lines))
-words-insert (l ∷ lines) (suc k) line h =
-    omega (arith, cons_words l (insert lines k line), cons_words l lines, words-insert lines k line (omega (arith, h)))
-
-words-remove : (lines : List Line) (k : ℕ) (d : Line) → k < length lines → words_of (remove lines k) + length (get_or lines k d).words.items ≡ words_of lines
-words-remove [] k d h = absurd (omega (arith, h))
-words-remove (l ∷ lines) zero d h = omega (arith, cons_words l lines)
-words-remove (l ∷ lines) (suc k) d h =
-    omega (arith, cons_words l (remove lines k), cons_words l lines, words-remove lines k d (omega (arith, h)))
-
-words-set : (lines : List Line) (k : ℕ) (line d : Line) → k < length lines
-    → words_of (slice_set lines k line) + length (get_or lines k d).words.items ≡ words_of lines + length line.words.items
-words-set [] k line d h = absurd (omega (arith, h))
-words-set (l ∷ lines) zero line d h = omega (arith, cons_words l lines, cons_words line lines)
-words-set (l ∷ lines) (suc k) line d h =
-    omega (arith, cons_words l (slice_set lines k line), cons_words l lines, words-set lines k line d (omega (arith, h)))
+-- one instruction in the middle
+pub words-middle : (is js : List Instruction) (i : Instruction) → words_of (is ++ i ∷ js) ≡ words_of is + length i.words + words_of js
+words-middle is js i = omega (arith, words-append is (i ∷ js), words-cons i js)
 
 -- the number of words of a draft
-pub size-insert : (lines : List Line) (k : ℕ) (line : Line) → k ≤ length lines
-    → size_in (map told (insert lines k line)) ≡ size_in (map told lines) + length line.words.items
-size-insert lines k line h = omega (arith, words-insert lines k line h)
+pub size-inserted : (insts : List Instruction) (i : Instruction) (k size size2 : ℕ) → size ≡ size_in insts → size2 ≡ size + length i.words
+    → size2 ≡ size_in (insert insts k i)
+size-inserted insts i k size size2 is more =
+    let whole : words_of (take k insts ++ drop k insts) ≡ words_of insts = ap words_of (take_drop insts k) in
+    omega (arith, is, more, words-middle (take k insts) (drop k insts) i, words-append (take k insts) (drop k insts), whole)
+  where
+    take_drop : (is : List Instruction) (k : ℕ) → take k is ++ drop k is ≡ is
+    take_drop is zero = refl
+    take_drop [] (suc k) = refl
+    take_drop (i ∷ is) (suc k) = ap (λ js. i ∷ js) (take_drop is k)
 
-pub size-remove : (lines : List Line) (k : ℕ) (d : Line) → k < length lines
-    → size_in (map told (remove lines k)) + length (get_or lines k d).words.items ≡ size_in (map told lines)
-size-remove lines k d h = omega (arith, words-remove lines k d h)
+size-split : (insts : List Instruction) (i : Instruction) (k : ℕ) → slice_get insts k ≡ Some i
+    → size_in insts ≡ 5 + words_of (take k insts) + length i.words + words_of (drop (suc k) insts)
+size-split insts i k at = omega (arith, ap words_of (get-split insts k i at), words-middle (take k insts) (drop (suc k) insts) i)
 
-pub size-set : (lines : List Line) (k : ℕ) (line d : Line) → k < length lines
-    → size_in (map told (slice_set lines k line)) + length (get_or lines k d).words.items ≡ size_in (map told lines) + length line.words.items
-size-set lines k line d h = omega (arith, words-set lines k line d h)
+pub no_more : (insts : List Instruction) (i : Instruction) (k n size : ℕ) → slice_get insts k ≡ Some i → n ≡ length i.words → size ≡ size_in insts → n ≤ size
+no_more insts i k n size at count is = omega (arith, size-split insts i k at, count, is)
 
-pub few : (lines : List Line) (size : ℕ) → size ≡ size_in (map told lines) → length lines ≤ size
-few lines size e = omega (arith, e, counted lines)
+pub size-removed : (insts : List Instruction) (i : Instruction) (k n size : ℕ) → slice_get insts k ≡ Some i → n ≡ length i.words → size ≡ size_in insts
+    → size - n ≡ size_in (remove insts k)
+size-removed insts i k n size at count is =
+    omega (arith, size-split insts i k at, count, is, words-append (take k insts) (drop (suc k) insts))
 
--- what is known of a place of a draft
-pub within : (lines : List Line) (insts : List Instruction) (k : ℕ) → map told lines ≡ insts → k < length insts → k < length lines
-within lines insts k e h = omega (arith, h, sym (ap length e), length-map lines told)
+pub size-replaced : (insts : List Instruction) (i new : Instruction) (k n size size2 : ℕ) → k < length insts → slice_get insts k ≡ Some i
+    → n ≡ length i.words → size ≡ size_in insts → size2 ≡ (size - n) + length new.words → size2 ≡ size_in (slice_set insts k new)
+size-replaced insts i new k n size size2 h at count is more =
+    omega (
+      arith,
+      size-split insts i k at,
+      count,
+      is,
+      more,
+      ap words_of (set-split insts k new h),
+      words-middle (take k insts) (drop (suc k) insts) new,
+    )
 
-pub to_within : (lines : List Line) (insts : List Instruction) (k : ℕ) → map told lines ≡ insts → k ≤ length insts → k ≤ length lines
-to_within lines insts k e h = omega (arith, h, sym (ap length e), length-map lines told)
+pub size-front : (insts : List Instruction) (i : Instruction) (k : ℕ) → slice_get insts k ≡ Some i → size_in (take k insts) + length i.words ≤ size_in insts
+size-front insts i k at = omega (arith, size-split insts i k at)
 
-pub no_more : (lines : List Line) (line : Line) (k n size : ℕ) → k < length lines → line ≡ get_or lines k line → n ≡ length line.words.items
-    → size ≡ size_in (map told lines) → n ≤ size
-no_more lines line k n size h at count is =
-    let same : length (get_or lines k line).words.items ≡ length line.words.items = ap (λ (l : Line). length l.words.items) (sym at) in
-    omega (arith, size-remove lines k line h, same, count, is)
-
-pub size-removed : (lines : List Line) (line : Line) (k n size : ℕ) → k < length lines → line ≡ get_or lines k line → n ≡ length line.words.items
-    → size ≡ size_in (map told lines) →
-    size - n ≡ size_in (map told (remove lines k))
-size-removed lines line k n size h at count is =
-    let same : length (get_or lines k line).words.items ≡ length line.words.items = ap (λ (l : Line). length l.words.items) (sym at) in
-    omega (arith, size-remove lines k line h, same, count, is)
-
-pub size-replaced : (lines : List Line) (line new : Line) (k n size size2 : ℕ) → k < length lines → line ≡ get_or lines k line → n ≡ length line.words.items
-    → size ≡ size_in (map told lines) →
-    size2 ≡ (size - n) + length new.words.items → size2 ≡ size_in (map told (slice_set lines k new))
-size-replaced lines line new k n size size2 h at count is more =
-    let same : length (get_or lines k line).words.items ≡ length line.words.items = ap (λ (l : Line). length l.words.items) (sym at) in
-    omega (arith, size-set lines k new line h, size-remove lines k line h, same, count, is, more)
-
-pub size-inserted : (lines : List Line) (line : Line) (k size size2 : ℕ) → k ≤ length lines → size ≡ size_in (map told lines)
-    → size2 ≡ size + length line.words.items →
-    size2 ≡ size_in (map told (insert lines k line))
-size-inserted lines line k size size2 h is more = omega (arith, size-insert lines k line h, is, more)
+pub size-more : (insts : List Instruction) (i : Instruction) (k : ℕ) → k < length insts → slice_get insts k ≡ Some i
+    → size_in (take (k + 1) insts) ≡ size_in (take k insts) + length i.words
+size-more insts i k h at = omega (arith, ap words_of (take-at insts k i h at), words-middle (take k insts) [] i)

@@ -1,4 +1,4 @@
--- The parts of an instruction's words stay where one id is put for another.
+-- The parts of an instruction's words stay whatever words stand where it uses ids.
 use Rattle.std.proofs.Common.{◌≡◌, ℕ, zero, suc, ◌+◌, ◌*◌, ◌%◌, ◌<◌, ◌≤◌, Bool, true, false, cond, ◌==◌, ◌&&◌, ◌||◌, not, nat_le, nat_lt, List, [], ◌∷◌, ◌++◌}
 use Rattle.std.proofs.Common.{length, take, drop, replicate, Option, Some, None, Result, Ok, Err, refl, sym, ap, ◌∙◌, subst, arith}
 use Rattle.std.specs.Option.{option_map, option_and_then}
@@ -19,65 +19,74 @@ use Rattle.spv_grammar.specs.Text.{text_words, has_zero_octet, is_text, is_set_n
 use Rattle.spv_grammar.specs.Operands.{Taken, none, one, all, all_if, after, mark, in_turn, text_by, text_role, set_name_role, memory_operands, builtin}
 use Rattle.spv_grammar.specs.Operands.{decorated, extended, taken, operand_roles, fitted, behind, row_roles, inner_shape, inner_roles, spec_constant_roles}
 use Rattle.spv_grammar.specs.Operands.{body_roles, opcode_of, roles_of}
-use Rattle.spv_draft.specs.Named.{replaced_word, replaced_words}
 
 -- ---- the words that are put
 
-pub replaced-none : (a b : ℕ) (rs : List Role) → replaced_words a b rs [] ≡ []
-replaced-none a b [] = refl
-replaced-none a b (r ∷ rs) = refl
+-- words, with those of `v`, one for each place, where ids are used
+abbrev pub mixed : (v : ℕ → ℕ) → List Role → List ℕ → List ℕ
+mixed v [] ws = ws
+mixed v (r ∷ rs) [] = []
+mixed v (r ∷ rs) (w ∷ ws) = cond (is_used_id r) (v 0) w ∷ mixed (λ n. v (suc n)) rs ws
 
-pub length-replaced : (a b : ℕ) (rs : List Role) (ws : List ℕ) → length (replaced_words a b rs ws) ≡ length ws
-length-replaced a b [] ws = refl
-length-replaced a b (r ∷ rs) [] = refl
-length-replaced a b (r ∷ rs) (w ∷ ws) = ap suc (length-replaced a b rs ws)
+pub mixed-none : (v : ℕ → ℕ) (rs : List Role) → mixed v rs [] ≡ []
+mixed-none v [] = refl
+mixed-none v (r ∷ rs) = refl
+
+pub length-mixed : (v : ℕ → ℕ) (rs : List Role) (ws : List ℕ) → length (mixed v rs ws) ≡ length ws
+length-mixed v [] ws = refl
+length-mixed v (r ∷ rs) [] = refl
+length-mixed v (r ∷ rs) (w ∷ ws) = ap suc (length-mixed (λ n. v (suc n)) rs ws)
 
 -- a word that uses no id stays
-unused_stays : (a b : ℕ) (r : Role) (w : ℕ) → is_used_id r ≡ false → replaced_word a b r w ≡ w
-unused_stays a b r w e = ap (λ used. cond (used && w == a) b w) e
+unused_stays : (r : Role) (x w : ℕ) → is_used_id r ≡ false → cond (is_used_id r) x w ≡ w
+unused_stays r x w e = ap (λ used. cond used x w) e
 
-mark_stays : (a b : ℕ) (known : Bool) (w : ℕ) → replaced_word a b (mark known) w ≡ w
-mark_stays a b true w = refl
-mark_stays a b false w = refl
+mark_unused : (known : Bool) → is_used_id (mark known) ≡ false
+mark_unused true = refl
+mark_unused false = refl
 
 -- ---- operands
 
+-- the parts that an operand took, and the words that it left, others put where ids are used
+abbrev Left : Taken → List Role → Option Taken → Type 0
+Left t more found = (later : ℕ → ℕ) × (found ≡ Some (record { roles = t.roles; rest = mixed later more t.rest }))
+
 -- an operand takes the same parts of the words that are put, and leaves what is put of the rest
-abbrev Keeps : (a b : ℕ) → Option Taken → (List ℕ → Option Taken) → List ℕ → Type 0
-Keeps a b None g ws = Unit {0}
-Keeps a b (Some t) g ws = (more : List Role)
-    → g (replaced_words a b (t.roles ++ more) ws) ≡ Some (record { roles = t.roles; rest = replaced_words a b more t.rest })
+abbrev Keeps : Option Taken → (List ℕ → Option Taken) → List ℕ → Type 0
+Keeps None g ws = Unit {0}
+Keeps (Some t) g ws = (v : ℕ → ℕ) (more : List Role) → Left t more (g (mixed v (t.roles ++ more) ws))
 
 -- the same, behind a word that stays
-record Behind (a b w : ℕ) (ws : List ℕ) (t : Taken) (g : List ℕ → Option Taken) (more : List Role) : Type 0 where
+record Behind (v : ℕ → ℕ) (w : ℕ) (ws : List ℕ) (t : Taken) (g : List ℕ → Option Taken) (more : List Role) : Type 0 where
   words : List ℕ
-  front : replaced_words a b (t.roles ++ more) (w ∷ ws) ≡ w ∷ words
-  takes : g words ≡ Some (record { roles = t.roles; rest = replaced_words a b more t.rest })
+  later : ℕ → ℕ
+  front : mixed v (t.roles ++ more) (w ∷ ws) ≡ w ∷ words
+  takes : g words ≡ Some (record { roles = t.roles; rest = mixed later more t.rest })
 
-abbrev KeepsBehind : (a b : ℕ) → Option Taken → (List ℕ → Option Taken) → ℕ → List ℕ → Type 0
-KeepsBehind a b None g w ws = Unit {0}
-KeepsBehind a b (Some t) g w ws = (more : List Role) → Behind a b w ws t g more
+abbrev KeepsBehind : Option Taken → (List ℕ → Option Taken) → ℕ → List ℕ → Type 0
+KeepsBehind None g w ws = Unit {0}
+KeepsBehind (Some t) g w ws = (v : ℕ → ℕ) (more : List Role) → Behind v w ws t g more
 
-one-keeps : (a b : ℕ) (role : Role) (ws : List ℕ) → Keeps a b (one role ws) (one role) ws
-one-keeps a b role [] = tt
-one-keeps a b role (w ∷ ws) = λ more. refl
+one-keeps : (role : Role) (ws : List ℕ) → Keeps (one role ws) (one role) ws
+one-keeps role [] = tt
+one-keeps role (w ∷ ws) = λ v more. ((λ n. v (suc n)), refl)
 
-none-keeps : (a b : ℕ) (ws : List ℕ) → Keeps a b (none ws) none ws
-none-keeps a b ws = λ more. refl
+none-keeps : (ws : List ℕ) → Keeps (none ws) none ws
+none-keeps ws = λ v more. (v, refl)
 
-all_if-keeps : (a b : ℕ) (fits : Bool) (roles : List Role) (ws : List ℕ) (g : List ℕ → Option Taken) →
-    ((more : List Role) → g (replaced_words a b (roles ++ more) ws) ≡ all_if fits roles) → Keeps a b (all_if fits roles) g ws
-all_if-keeps a b true roles ws g h = λ more. h more ∙ ap (λ rest. Some (record { roles = roles; rest = rest })) (sym (replaced-none a b more))
-all_if-keeps a b false roles ws g h = tt
+all_if-keeps : (fits : Bool) (roles : List Role) (ws : List ℕ) (g : List ℕ → Option Taken) →
+    ((v : ℕ → ℕ) (more : List Role) → g (mixed v (roles ++ more) ws) ≡ all_if fits roles) → Keeps (all_if fits roles) g ws
+all_if-keeps true roles ws g h = λ v more. (v, h v more ∙ ap (λ rest. Some (record { roles = roles; rest = rest })) (sym (mixed-none v more)))
+all_if-keeps false roles ws g h = tt
 
-times-keeps : (a b : ℕ) (fits : ℕ → Bool) (role : Role) (ws : List ℕ) →
-    Keeps a b (all_if (fits (length ws)) (replicate (length ws) role)) (λ xs. all_if (fits (length xs)) (replicate (length xs) role)) ws
-times-keeps a b fits role ws =
-    all_if-keeps a b (fits (length ws)) (replicate (length ws) role) ws (λ xs. all_if (fits (length xs)) (replicate (length xs) role))
-    (λ more. ap (λ n. all_if (fits n) (replicate n role)) (length-replaced a b (replicate (length ws) role ++ more) ws))
+times-keeps : (fits : ℕ → Bool) (role : Role) (ws : List ℕ) →
+    Keeps (all_if (fits (length ws)) (replicate (length ws) role)) (λ xs. all_if (fits (length xs)) (replicate (length xs) role)) ws
+times-keeps fits role ws =
+    all_if-keeps (fits (length ws)) (replicate (length ws) role) ws (λ xs. all_if (fits (length xs)) (replicate (length xs) role))
+    (λ v more. ap (λ n. all_if (fits n) (replicate n role)) (length-mixed v (replicate (length ws) role ++ more) ws))
 
-all-keeps : (a b : ℕ) (role : Role) (ws : List ℕ) → Keeps a b (all role ws) (all role) ws
-all-keeps a b role ws = times-keeps a b (λ n. true) role ws
+all-keeps : (role : Role) (ws : List ℕ) → Keeps (all role ws) (all role) ws
+all-keeps role ws = times-keeps (λ n. true) role ws
 
 -- the parts of words in turn hang on how many there are
 in_turn-same : (xs ws : List ℕ) → length xs ≡ length ws → in_turn xs ≡ in_turn ws
@@ -89,77 +98,81 @@ in_turn-same (x ∷ []) (w ∷ v ∷ ws) e = absurd (omega (arith, e))
 in_turn-same (x ∷ y ∷ xs) (w ∷ []) e = absurd (omega (arith, e))
 in_turn-same (x ∷ y ∷ xs) (w ∷ v ∷ ws) e = ap (λ rs. Literal ∷ UsedId ∷ rs) (in_turn-same xs ws (omega (arith, e)))
 
-cases-keeps : (a b most : ℕ) (ws : List ℕ) → Keeps a b (taken (Cases most) ws) (taken (Cases most)) ws
-cases-keeps a b most ws =
-    all_if-keeps a b (length ws % 2 == 0 && nat_le (length ws) (2 * most)) (in_turn ws) ws (taken (Cases most))
-    (λ more.
-    let xs = replaced_words a b (in_turn ws ++ more) ws in
-    let long = length-replaced a b (in_turn ws ++ more) ws in
+cases-keeps : (most : ℕ) (ws : List ℕ) → Keeps (taken (Cases most) ws) (taken (Cases most)) ws
+cases-keeps most ws =
+    all_if-keeps (length ws % 2 == 0 && nat_le (length ws) (2 * most)) (in_turn ws) ws (taken (Cases most))
+    (λ v more.
+    let xs = mixed v (in_turn ws ++ more) ws in
+    let long = length-mixed v (in_turn ws ++ more) ws in
     ap (λ n. all_if (n % 2 == 0 && nat_le n (2 * most)) (in_turn xs)) long
     ∙ ap (all_if (length ws % 2 == 0 && nat_le (length ws) (2 * most))) (in_turn-same xs ws long))
 
-after-keeps : (a b : ℕ) (t : Option Taken) (role : Role) (w : ℕ) (ws : List ℕ) (g : List ℕ → Option Taken) → replaced_word a b role w ≡ w → Keeps a b t g ws →
-    KeepsBehind a b (option_map (after (role ∷ [])) t) (λ xs. option_map (after (role ∷ [])) (g xs)) w ws
-after-keeps a b None role w ws g e k = tt
-after-keeps a b (Some t) role w ws g e k = λ more. record {
-  words = replaced_words a b (t.roles ++ more) ws;
-  front = ap (λ v. v ∷ replaced_words a b (t.roles ++ more) ws) e;
-  takes = ap (option_map (after (role ∷ []))) (k more);
-}
+after-keeps : (t : Option Taken) (role : Role) (w : ℕ) (ws : List ℕ) (g : List ℕ → Option Taken) → is_used_id role ≡ false → Keeps t g ws →
+    KeepsBehind (option_map (after (role ∷ [])) t) (λ xs. option_map (after (role ∷ [])) (g xs)) w ws
+after-keeps None role w ws g e k = tt
+after-keeps (Some t) role w ws g e k = λ v more.
+    let found = k (λ n. v (suc n)) more in
+    record {
+      words = mixed (λ n. v (suc n)) (t.roles ++ more) ws;
+      later = found.0;
+      front = ap (λ x. x ∷ mixed (λ n. v (suc n)) (t.roles ++ more) ws) (unused_stays role (v 0) w e);
+      takes = ap (option_map (after (role ∷ []))) found.1;
+    }
 
-cond-behind : (a b : ℕ) (c : Bool) (t u : Option Taken) (g h : List ℕ → Option Taken) (w : ℕ) (ws : List ℕ) → KeepsBehind a b t g w ws
-    → KeepsBehind a b u h w ws →
-    KeepsBehind a b (cond c t u) (λ xs. cond c (g xs) (h xs)) w ws
-cond-behind a b true t u g h w ws k l = k
-cond-behind a b false t u g h w ws k l = l
+cond-behind : (c : Bool) (t u : Option Taken) (g h : List ℕ → Option Taken) (w : ℕ) (ws : List ℕ) → KeepsBehind t g w ws → KeepsBehind u h w ws →
+    KeepsBehind (cond c t u) (λ xs. cond c (g xs) (h xs)) w ws
+cond-behind true t u g h w ws k l = k
+cond-behind false t u g h w ws k l = l
 
-cond-keeps : (a b : ℕ) (c : Bool) (t u : Option Taken) (g h : List ℕ → Option Taken) (ws : List ℕ) → Keeps a b t g ws → Keeps a b u h ws →
-    Keeps a b (cond c t u) (λ xs. cond c (g xs) (h xs)) ws
-cond-keeps a b true t u g h ws k l = k
-cond-keeps a b false t u g h ws k l = l
+cond-keeps : (c : Bool) (t u : Option Taken) (g h : List ℕ → Option Taken) (ws : List ℕ) → Keeps t g ws → Keeps u h ws →
+    Keeps (cond c t u) (λ xs. cond c (g xs) (h xs)) ws
+cond-keeps true t u g h ws k l = k
+cond-keeps false t u g h ws k l = l
 
 -- what is behind a word that stays is kept with it
-whole_from_behind : (a b : ℕ) (t : Option Taken) (g h : List ℕ → Option Taken) (w : ℕ) (ws : List ℕ) → ((xs : List ℕ) → g (w ∷ xs) ≡ h xs)
-    → KeepsBehind a b t h w ws → Keeps a b t g (w ∷ ws)
-whole_from_behind a b None g h w ws same k = tt
-whole_from_behind a b (Some t) g h w ws same k = λ more. let found = k more in ap g found.front ∙ same found.words ∙ found.takes
+whole_from_behind : (t : Option Taken) (g h : List ℕ → Option Taken) (w : ℕ) (ws : List ℕ) → ((xs : List ℕ) → g (w ∷ xs) ≡ h xs) → KeepsBehind t h w ws
+    → Keeps t g (w ∷ ws)
+whole_from_behind None g h w ws same k = tt
+whole_from_behind (Some t) g h w ws same k = λ v more. let found = k v more in (found.later, ap g found.front ∙ same found.words ∙ found.takes)
 
-mark-keeps : (a b : ℕ) (known : ℕ → Bool) (w : ℕ) (ws : List ℕ) (g : List ℕ → Option Taken)
-    → ((x : ℕ) (xs : List ℕ) → g (x ∷ xs) ≡ one (mark (known x)) (x ∷ xs)) →
-    Keeps a b (one (mark (known w)) (w ∷ ws)) g (w ∷ ws)
-mark-keeps a b known w ws g same = λ more.
-    ap (λ x. g (x ∷ replaced_words a b more ws)) (mark_stays a b (known w) w) ∙ same w (replaced_words a b more ws)
+mark-keeps : (known : ℕ → Bool) (w : ℕ) (ws : List ℕ) (g : List ℕ → Option Taken) → ((x : ℕ) (xs : List ℕ) → g (x ∷ xs) ≡ one (mark (known x)) (x ∷ xs)) →
+    Keeps (one (mark (known w)) (w ∷ ws)) g (w ∷ ws)
+mark-keeps known w ws g same = λ v more. (
+  (λ n. v (suc n)),
+  ap (λ x. g (x ∷ mixed (λ n. v (suc n)) more ws)) (unused_stays (mark (known w)) (v 0) w (mark_unused (known w)))
+      ∙ same w (mixed (λ n. v (suc n)) more ws),
+)
 
-builtin-keeps : (a b : ℕ) (ws : List ℕ) → Keeps a b (builtin ws) builtin ws
-builtin-keeps a b [] = tt
-builtin-keeps a b (w ∷ ws) = mark-keeps a b is_builtin w ws builtin (λ x xs. refl)
+builtin-keeps : (ws : List ℕ) → Keeps (builtin ws) builtin ws
+builtin-keeps [] = tt
+builtin-keeps (w ∷ ws) = mark-keeps is_builtin w ws builtin (λ x xs. refl)
 
-memory-keeps : (a b w : ℕ) (ws : List ℕ) → KeepsBehind a b (memory_operands w ws) (memory_operands w) w ws
-memory-keeps a b w ws =
-    after-keeps a b (cond (is_aligned w) (one Literal ws) (none ws)) (mark (is_memory_operands w)) w ws (λ xs. cond (is_aligned w) (one Literal xs) (none xs))
-    (mark_stays a b (is_memory_operands w) w)
-    (cond-keeps a b (is_aligned w) (one Literal ws) (none ws) (one Literal) none ws (one-keeps a b Literal ws) (none-keeps a b ws))
+memory-keeps : (w : ℕ) (ws : List ℕ) → KeepsBehind (memory_operands w ws) (memory_operands w) w ws
+memory-keeps w ws =
+    after-keeps (cond (is_aligned w) (one Literal ws) (none ws)) (mark (is_memory_operands w)) w ws (λ xs. cond (is_aligned w) (one Literal xs) (none xs))
+    (mark_unused (is_memory_operands w))
+    (cond-keeps (is_aligned w) (one Literal ws) (none ws) (one Literal) none ws (one-keeps Literal ws) (none-keeps ws))
 
-decorated-keeps : (a b w : ℕ) (ws : List ℕ) → KeepsBehind a b (decorated w ws) (decorated w) w ws
-decorated-keeps a b w ws =
-    let bare = after-keeps a b (none ws) Literal w ws none refl (none-keeps a b ws) in
-    let numbered = after-keeps a b (one Literal ws) Literal w ws (one Literal) refl (one-keeps a b Literal ws) in
-    let built_in = after-keeps a b (builtin ws) Literal w ws builtin refl (builtin-keeps a b ws) in
-    let unknown = after-keeps a b (all Literal ws) UnknownEnumerant w ws (all Literal) refl (all-keeps a b Literal ws) in
-    cond-behind a b (is_bare_decoration w) _ _ (λ xs. option_map (after (Literal ∷ [])) (none xs))
+decorated-keeps : (w : ℕ) (ws : List ℕ) → KeepsBehind (decorated w ws) (decorated w) w ws
+decorated-keeps w ws =
+    let bare = after-keeps (none ws) Literal w ws none refl (none-keeps ws) in
+    let numbered = after-keeps (one Literal ws) Literal w ws (one Literal) refl (one-keeps Literal ws) in
+    let built_in = after-keeps (builtin ws) Literal w ws builtin refl (builtin-keeps ws) in
+    let unknown = after-keeps (all Literal ws) UnknownEnumerant w ws (all Literal) refl (all-keeps Literal ws) in
+    cond-behind (is_bare_decoration w) _ _ (λ xs. option_map (after (Literal ∷ [])) (none xs))
     (λ xs. cond (is_numbered_decoration w) (option_map (after (Literal ∷ [])) (one Literal xs))
     (cond (w == decoration.BUILTIN) (option_map (after (Literal ∷ [])) (builtin xs)) (option_map (after (UnknownEnumerant ∷ [])) (all Literal xs)))) w ws bare
-    (cond-behind a b (is_numbered_decoration w) _ _ (λ xs. option_map (after (Literal ∷ [])) (one Literal xs))
+    (cond-behind (is_numbered_decoration w) _ _ (λ xs. option_map (after (Literal ∷ [])) (one Literal xs))
     (λ xs. cond (w == decoration.BUILTIN) (option_map (after (Literal ∷ [])) (builtin xs)) (option_map (after (UnknownEnumerant ∷ [])) (all Literal xs))) w ws
     numbered
-    (cond-behind a b (w == decoration.BUILTIN) _ _ (λ xs. option_map (after (Literal ∷ [])) (builtin xs))
+    (cond-behind (w == decoration.BUILTIN) _ _ (λ xs. option_map (after (Literal ∷ [])) (builtin xs))
     (λ xs. option_map (after (UnknownEnumerant ∷ [])) (all Literal xs)) w ws built_in unknown))
 
-extended-keeps : (a b : ℕ) (count : Option ℕ) (w : ℕ) (ws : List ℕ) → KeepsBehind a b (extended count ws) (extended count) w ws
-extended-keeps a b None w ws = after-keeps a b (all UsedId ws) UnknownEnumerant w ws (all UsedId) refl (all-keeps a b UsedId ws)
-extended-keeps a b (Some n) w ws =
-    after-keeps a b (all_if (length ws == n) (replicate (length ws) UsedId)) Literal w ws (λ xs. all_if (length xs == n) (replicate (length xs) UsedId)) refl
-    (times-keeps a b (λ m. m == n) UsedId ws)
+extended-keeps : (count : Option ℕ) (w : ℕ) (ws : List ℕ) → KeepsBehind (extended count ws) (extended count) w ws
+extended-keeps None w ws = after-keeps (all UsedId ws) UnknownEnumerant w ws (all UsedId) refl (all-keeps UsedId ws)
+extended-keeps (Some n) w ws =
+    after-keeps (all_if (length ws == n) (replicate (length ws) UsedId)) Literal w ws (λ xs. all_if (length xs == n) (replicate (length xs) UsedId)) refl
+    (times-keeps (λ m. m == n) UsedId ws)
 
 -- ---- strings
 
@@ -188,12 +201,15 @@ text_length-within [] = omega arith
 text_length-within (w ∷ ws) = within_step (has_zero_octet w) (text_length ws) (length ws) (text_length-within ws)
 
 -- words of one part that uses no id stay
-front_stays : (a b : ℕ) (r : Role) (more : List Role) (n : ℕ) (ws : List ℕ) → is_used_id r ≡ false → n ≤ length ws →
-    replaced_words a b (replicate n r ++ more) ws ≡ take n ws ++ replaced_words a b more (drop n ws)
-front_stays a b r more zero ws e h = refl
-front_stays a b r more (suc n) [] e h = absurd (omega (arith, h))
-front_stays a b r more (suc n) (w ∷ ws) e h =
-    ap (λ v. v ∷ replaced_words a b (replicate n r ++ more) ws) (unused_stays a b r w e) ∙ ap (λ vs. w ∷ vs) (front_stays a b r more n ws e (omega (arith, h)))
+front_stays : (v : ℕ → ℕ) (r : Role) (more : List Role) (n : ℕ) (ws : List ℕ) → is_used_id r ≡ false → n ≤ length ws →
+    (later : ℕ → ℕ) × (mixed v (replicate n r ++ more) ws ≡ take n ws ++ mixed later more (drop n ws))
+front_stays v r more zero ws e h = (v, refl)
+front_stays v r more (suc n) [] e h = absurd (omega (arith, h))
+front_stays v r more (suc n) (w ∷ ws) e h =
+    let rest = front_stays (λ n. v (suc n)) r more n ws e (omega (arith, h)) in (
+      rest.0,
+      ap (λ x. x ∷ mixed (λ n. v (suc n)) (replicate n r ++ more) ws) (unused_stays r (v 0) w e) ∙ ap (λ vs. w ∷ vs) rest.1,
+    )
 
 take_front : (n : ℕ) (ws zs : List ℕ) → n ≤ length ws → take n (take n ws ++ zs) ≡ take n ws
 take_front zero ws zs h = refl
@@ -205,19 +221,19 @@ drop_front zero ws zs h = refl
 drop_front (suc n) [] zs h = absurd (omega (arith, h))
 drop_front (suc n) (w ∷ ws) zs h = drop_front n ws zs (omega (arith, h))
 
-text_step : (z : Bool) (a b : ℕ) (more : List Role) (w : ℕ) (ws : List ℕ) → has_zero_octet w ≡ z →
-    text_length (take (text_length ws) ws ++ replaced_words a b more (drop (text_length ws) ws)) ≡ text_length ws →
-    text_length (take (cond z 1 (suc (text_length ws))) (w ∷ ws) ++ replaced_words a b more (drop (cond z 1 (suc (text_length ws))) (w ∷ ws))) ≡ cond z 1
+text_step : (z : Bool) (v : ℕ → ℕ) (more : List Role) (w : ℕ) (ws : List ℕ) → has_zero_octet w ≡ z →
+    text_length (take (text_length ws) ws ++ mixed v more (drop (text_length ws) ws)) ≡ text_length ws →
+    text_length (take (cond z 1 (suc (text_length ws))) (w ∷ ws) ++ mixed v more (drop (cond z 1 (suc (text_length ws))) (w ∷ ws))) ≡ cond z 1
     (suc (text_length ws))
-text_step true a b more w ws e h = ap (λ z. cond z 1 (suc (text_length (take 0 ws ++ replaced_words a b more (drop 0 ws))))) e
-text_step false a b more w ws e h =
-    ap (λ z. cond z 1 (suc (text_length (take (text_length ws) ws ++ replaced_words a b more (drop (text_length ws) ws))))) e ∙ ap suc h
+text_step true v more w ws e h = ap (λ z. cond z 1 (suc (text_length (take 0 ws ++ mixed v more (drop 0 ws))))) e
+text_step false v more w ws e h =
+    ap (λ z. cond z 1 (suc (text_length (take (text_length ws) ws ++ mixed v more (drop (text_length ws) ws))))) e ∙ ap suc h
 
 -- a string ends where it ended
-text_stays : (a b : ℕ) (more : List Role) (ws : List ℕ)
-    → text_length (take (text_length ws) ws ++ replaced_words a b more (drop (text_length ws) ws)) ≡ text_length ws
-text_stays a b more [] = ap text_length (replaced-none a b more)
-text_stays a b more (w ∷ ws) = text_step (has_zero_octet w) a b more w ws refl (text_stays a b more ws)
+text_stays : (v : ℕ → ℕ) (more : List Role) (ws : List ℕ)
+    → text_length (take (text_length ws) ws ++ mixed v more (drop (text_length ws) ws)) ≡ text_length ws
+text_stays v more [] = ap text_length (mixed-none v more)
+text_stays v more (w ∷ ws) = text_step (has_zero_octet w) v more w ws refl (text_stays v more ws)
 
 abbrev text_of : (List ℕ → Role) → ℕ → List ℕ → Option Taken
 text_of role n ws = Some (record { roles = replicate n (role (take n ws)); rest = drop n ws })
@@ -226,29 +242,31 @@ text_by-some : (role : List ℕ → Role) (ws : List ℕ) → 0 < length ws → 
 text_by-some role [] h = absurd (omega (arith, h))
 text_by-some role (w ∷ ws) h = refl
 
-text_front : (a b : ℕ) (role : List ℕ → Role) (more : List Role) (n : ℕ) (ws xs : List ℕ) → ((ws : List ℕ) → is_used_id (role ws) ≡ false) → 0 < length ws
-    → n ≡ text_length ws →
-    xs ≡ replaced_words a b (replicate n (role (take n ws)) ++ more) ws →
-    text_by role xs ≡ Some (record { roles = replicate n (role (take n ws)); rest = replaced_words a b more (drop n ws) })
-text_front a b role more n ws xs unused some is same =
+text_front : (v : ℕ → ℕ) (role : List ℕ → Role) (more : List Role) (n : ℕ) (ws xs : List ℕ) → 0 < length ws → n ≡ text_length ws → length xs ≡ length ws →
+    xs ≡ take n ws ++ mixed v more (drop n ws) →
+    text_by role xs ≡ Some (record { roles = replicate n (role (take n ws)); rest = mixed v more (drop n ws) })
+text_front v role more n ws xs some is long fronts =
     let within : n ≤ length ws = omega (arith, is, text_length-within ws) in
-    let put = replaced_words a b more (drop n ws) in
-    let long : length xs ≡ length ws = ap length same ∙ length-replaced a b (replicate n (role (take n ws)) ++ more) ws in
-    let fronts : xs ≡ take n ws ++ put = same ∙ front_stays a b (role (take n ws)) more n ws (unused (take n ws)) within in
+    let put = mixed v more (drop n ws) in
     let ends : text_words xs ≡ n =
-    text-length xs ∙ ap text_length fronts ∙ ap (λ m. text_length (take m ws ++ replaced_words a b more (drop m ws))) is ∙ text_stays a b more ws ∙ sym is in
+    text-length xs ∙ ap text_length fronts ∙ ap (λ m. text_length (take m ws ++ mixed v more (drop m ws))) is ∙ text_stays v more ws ∙ sym is in
     text_by-some role xs (omega (arith, long, some))
     ∙ ap (λ m. text_of role m xs) ends
     ∙ ap (text_of role n) fronts
     ∙ ap (λ front. Some (record { roles = replicate n (role front); rest = drop n (take n ws ++ put) })) (take_front n ws put within)
     ∙ ap (λ rest. Some (record { roles = replicate n (role (take n ws)); rest = rest })) (drop_front n ws put within)
 
-text-keeps : (a b : ℕ) (role : List ℕ → Role) (ws : List ℕ) → ((ws : List ℕ) → is_used_id (role ws) ≡ false) → Keeps a b (text_by role ws) (text_by role) ws
-text-keeps a b role [] unused = tt
-text-keeps a b role (w ∷ ws) unused = λ more.
+text-keeps : (role : List ℕ → Role) (ws : List ℕ) → ((ws : List ℕ) → is_used_id (role ws) ≡ false) → Keeps (text_by role ws) (text_by role) ws
+text-keeps role [] unused = tt
+text-keeps role (w ∷ ws) unused = λ v more.
     let n = text_words (w ∷ ws) in
-    text_front a b role more n (w ∷ ws) (replaced_words a b (replicate n (role (take n (w ∷ ws))) ++ more) (w ∷ ws)) unused (omega arith) (text-length (w ∷ ws))
-    refl
+    let is : n ≡ text_length (w ∷ ws) = text-length (w ∷ ws) in
+    let part = role (take n (w ∷ ws)) in
+    let fronts = front_stays v part more n (w ∷ ws) (unused (take n (w ∷ ws))) (omega (arith, is, text_length-within (w ∷ ws))) in (
+      fronts.0,
+      text_front fronts.0 role more n (w ∷ ws) (mixed v (replicate n part ++ more) (w ∷ ws)) (omega arith) is
+          (length-mixed v (replicate n part ++ more) (w ∷ ws)) fronts.1,
+    )
 
 text_unused : (text : Bool) → is_used_id (cond text Octets BadOctets) ≡ false
 text_unused true = refl
@@ -261,148 +279,154 @@ set_unused false known = refl
 
 -- ---- all operands of an instruction
 
-taken-keeps : (a b : ℕ) (kind : Kind) (ws : List ℕ) → Keeps a b (taken kind ws) (taken kind) ws
-taken-keeps a b ResultType ws = one-keeps a b TypeId ws
-taken-keeps a b ResultId ws = one-keeps a b DefinedId ws
-taken-keeps a b Id ws = one-keeps a b UsedId ws
-taken-keeps a b OptionalId [] = λ more. ap (taken OptionalId) (replaced-none a b more) ∙ ap (λ rest. Some (record { roles = []; rest = rest }))
-    (sym (replaced-none a b more))
-taken-keeps a b OptionalId (w ∷ ws) = λ more. refl
-taken-keeps a b (Ids most) ws = times-keeps a b (λ n. nat_le n most) UsedId ws
-taken-keeps a b IdPairs ws = times-keeps a b (λ n. n % 2 == 0) UsedId ws
-taken-keeps a b Number ws = one-keeps a b Literal ws
-taken-keeps a b SomeNumbers ws = times-keeps a b (λ n. nat_lt 0 n) Literal ws
-taken-keeps a b Numbers ws = all-keeps a b Literal ws
-taken-keeps a b Weights ws = times-keeps a b (λ n. n == 0 || n == 2) Literal ws
-taken-keeps a b (Cases most) ws = cases-keeps a b most ws
-taken-keeps a b Text ws = text-keeps a b text_role ws (λ xs. text_unused (is_text xs))
-taken-keeps a b OptionalText [] = λ more. ap (taken OptionalText) (replaced-none a b more) ∙ ap (λ rest. Some (record { roles = []; rest = rest }))
-    (sym (replaced-none a b more))
-taken-keeps a b OptionalText (w ∷ ws) = λ more. optional_text a b more w ws
+taken-keeps : (kind : Kind) (ws : List ℕ) → Keeps (taken kind ws) (taken kind) ws
+taken-keeps ResultType ws = one-keeps TypeId ws
+taken-keeps ResultId ws = one-keeps DefinedId ws
+taken-keeps Id ws = one-keeps UsedId ws
+taken-keeps OptionalId [] = λ v more. (
+  v,
+  ap (taken OptionalId) (mixed-none v more) ∙ ap (λ rest. Some (record { roles = []; rest = rest })) (sym (mixed-none v more)),
+)
+taken-keeps OptionalId (w ∷ ws) = λ v more. ((λ n. v (suc n)), refl)
+taken-keeps (Ids most) ws = times-keeps (λ n. nat_le n most) UsedId ws
+taken-keeps IdPairs ws = times-keeps (λ n. n % 2 == 0) UsedId ws
+taken-keeps Number ws = one-keeps Literal ws
+taken-keeps SomeNumbers ws = times-keeps (λ n. nat_lt 0 n) Literal ws
+taken-keeps Numbers ws = all-keeps Literal ws
+taken-keeps Weights ws = times-keeps (λ n. n == 0 || n == 2) Literal ws
+taken-keeps (Cases most) ws = cases-keeps most ws
+taken-keeps Text ws = text-keeps text_role ws (λ xs. text_unused (is_text xs))
+taken-keeps OptionalText [] = λ v more. (
+  v,
+  ap (taken OptionalText) (mixed-none v more) ∙ ap (λ rest. Some (record { roles = []; rest = rest })) (sym (mixed-none v more)),
+)
+taken-keeps OptionalText (w ∷ ws) = λ v more. optional_text v more w ws
   where
     from_some : (xs : List ℕ) → 0 < length xs → taken OptionalText xs ≡ text_by text_role xs
     from_some [] h = absurd (omega (arith, h))
     from_some (x ∷ xs) h = refl
 
-    optional_text : (a b : ℕ) (more : List Role) (w : ℕ) (ws : List ℕ) →
+    optional_text : (v : ℕ → ℕ) (more : List Role) (w : ℕ) (ws : List ℕ) →
         let n = text_words (w ∷ ws) in
         let roles = replicate n (text_role (take n (w ∷ ws))) in
-        taken OptionalText (replaced_words a b (roles ++ more) (w ∷ ws)) ≡ Some (record { roles = roles; rest = replaced_words a b more (drop n (w ∷ ws)) })
-    optional_text a b more w ws =
+        (later : ℕ → ℕ)
+        × (taken OptionalText (mixed v (roles ++ more) (w ∷ ws)) ≡ Some (record { roles = roles; rest = mixed later more (drop n (w ∷ ws)) }))
+    optional_text v more w ws =
         let n = text_words (w ∷ ws) in
         let roles = replicate n (text_role (take n (w ∷ ws))) in
-        from_some (replaced_words a b (roles ++ more) (w ∷ ws)) (omega (arith, length-replaced a b (roles ++ more) (w ∷ ws)))
-        ∙ text-keeps a b text_role (w ∷ ws) (λ xs. text_unused (is_text xs)) more
-taken-keeps a b SetName ws = text-keeps a b set_name_role ws (λ xs. set_unused (is_text xs) (is_set_name xs))
-taken-keeps a b (One enumerant) [] = tt
-taken-keeps a b (One enumerant) (w ∷ ws) = mark-keeps a b (is_known enumerant) w ws (taken (One enumerant)) (λ x xs. refl)
-taken-keeps a b MemoryOperands [] = λ more. ap (taken MemoryOperands) (replaced-none a b more) ∙ ap (λ rest. Some (record { roles = []; rest = rest }))
-    (sym (replaced-none a b more))
-taken-keeps a b MemoryOperands (w ∷ ws) = whole_from_behind a b (memory_operands w ws) (taken MemoryOperands) (memory_operands w) w ws (λ xs. refl)
-    (memory-keeps a b w ws)
-taken-keeps a b Decoration [] = tt
-taken-keeps a b Decoration (w ∷ ws) = whole_from_behind a b (decorated w ws) (taken Decoration) (decorated w) w ws (λ xs. refl) (decorated-keeps a b w ws)
-taken-keeps a b ExtInst [] = tt
-taken-keeps a b ExtInst (w ∷ ws) =
-    whole_from_behind a b (extended (ext_operands w) ws) (taken ExtInst) (extended (ext_operands w)) w ws (λ xs. refl)
-    (extended-keeps a b (ext_operands w) w ws)
+        let found = text-keeps text_role (w ∷ ws) (λ xs. text_unused (is_text xs)) v more in
+        (found.0, from_some (mixed v (roles ++ more) (w ∷ ws)) (omega (arith, length-mixed v (roles ++ more) (w ∷ ws))) ∙ found.1)
+taken-keeps SetName ws = text-keeps set_name_role ws (λ xs. set_unused (is_text xs) (is_set_name xs))
+taken-keeps (One enumerant) [] = tt
+taken-keeps (One enumerant) (w ∷ ws) = mark-keeps (is_known enumerant) w ws (taken (One enumerant)) (λ x xs. refl)
+taken-keeps MemoryOperands [] = λ v more. (
+  v,
+  ap (taken MemoryOperands) (mixed-none v more) ∙ ap (λ rest. Some (record { roles = []; rest = rest })) (sym (mixed-none v more)),
+)
+taken-keeps MemoryOperands (w ∷ ws) = whole_from_behind (memory_operands w ws) (taken MemoryOperands) (memory_operands w) w ws (λ xs. refl) (memory-keeps w ws)
+taken-keeps Decoration [] = tt
+taken-keeps Decoration (w ∷ ws) = whole_from_behind (decorated w ws) (taken Decoration) (decorated w) w ws (λ xs. refl) (decorated-keeps w ws)
+taken-keeps ExtInst [] = tt
+taken-keeps ExtInst (w ∷ ws) =
+    whole_from_behind (extended (ext_operands w) ws) (taken ExtInst) (extended (ext_operands w)) w ws (λ xs. refl) (extended-keeps (ext_operands w) w ws)
 
 -- all operands have the same parts
-abbrev Stays : (a b : ℕ) → List Kind → Type 0
-Stays a b kinds = (ws : List ℕ) (rs : List Role) → operand_roles kinds ws ≡ Some rs → operand_roles kinds (replaced_words a b rs ws) ≡ Some rs
+abbrev Stays : List Kind → Type 0
+Stays kinds = (v : ℕ → ℕ) (ws : List ℕ) (rs : List Role) → operand_roles kinds ws ≡ Some rs → operand_roles kinds (mixed v rs ws) ≡ Some rs
 
 abbrev then_others : List Kind → Taken → Option (List Role)
 then_others kinds t = option_map (λ roles. t.roles ++ roles) (operand_roles kinds t.rest)
 
-others_stay : (a b : ℕ) (kind : Kind) (kinds : List Kind) (ws : List ℕ) (t : Taken) (others : Option (List Role)) (rs : List Role)
-    → Keeps a b (Some t) (taken kind) ws → Stays a b kinds →
+others_stay : (v : ℕ → ℕ) (kind : Kind) (kinds : List Kind) (ws : List ℕ) (t : Taken) (others : Option (List Role)) (rs : List Role)
+    → Keeps (Some t) (taken kind) ws → Stays kinds →
     operand_roles kinds t.rest ≡ others → option_map (λ roles. t.roles ++ roles) others ≡ Some rs
-    → option_and_then (then_others kinds) (taken kind (replaced_words a b rs ws)) ≡ Some rs
-others_stay a b kind kinds ws t None rs k later found e = cc
-others_stay a b kind kinds ws t (Some others) rs k later found e =
+    → option_and_then (then_others kinds) (taken kind (mixed v rs ws)) ≡ Some rs
+others_stay v kind kinds ws t None rs k later found e = cc
+others_stay v kind kinds ws t (Some others) rs k later found e =
     let all : Some (t.roles ++ others) ≡ Some rs = e in
     let same : t.roles ++ others ≡ rs = ap (λ o. unwrap_or o []) all in
-    subst (λ roles. option_and_then (then_others kinds) (taken kind (replaced_words a b roles ws)) ≡ Some roles) same
-    (ap (option_and_then (then_others kinds)) (k others) ∙ ap (option_map (λ roles. t.roles ++ roles)) (later t.rest others found))
+    let left = k v others in
+    subst (λ roles. option_and_then (then_others kinds) (taken kind (mixed v roles ws)) ≡ Some roles) same
+    (ap (option_and_then (then_others kinds)) left.1 ∙ ap (option_map (λ roles. t.roles ++ roles)) (later left.0 t.rest others found))
 
-first_stays : (a b : ℕ) (kind : Kind) (kinds : List Kind) (ws : List ℕ) (t : Option Taken) (rs : List Role) → Keeps a b t (taken kind) ws → Stays a b kinds →
-    option_and_then (then_others kinds) t ≡ Some rs → option_and_then (then_others kinds) (taken kind (replaced_words a b rs ws)) ≡ Some rs
-first_stays a b kind kinds ws None rs k later e = cc
-first_stays a b kind kinds ws (Some t) rs k later e = others_stay a b kind kinds ws t (operand_roles kinds t.rest) rs k later refl e
+first_stays : (v : ℕ → ℕ) (kind : Kind) (kinds : List Kind) (ws : List ℕ) (t : Option Taken) (rs : List Role) → Keeps t (taken kind) ws → Stays kinds →
+    option_and_then (then_others kinds) t ≡ Some rs → option_and_then (then_others kinds) (taken kind (mixed v rs ws)) ≡ Some rs
+first_stays v kind kinds ws None rs k later e = cc
+first_stays v kind kinds ws (Some t) rs k later e = others_stay v kind kinds ws t (operand_roles kinds t.rest) rs k later refl e
 
 -- induction on the operands
-operands_stay : (a b : ℕ) (kinds : List Kind) → Stays a b kinds
-operands_stay a b [] [] rs e = ap (operand_roles []) (replaced-none a b rs) ∙ e
-operands_stay a b [] (w ∷ ws) rs e = cc
-operands_stay a b (kind ∷ kinds) ws rs e = first_stays a b kind kinds ws (taken kind ws) rs (taken-keeps a b kind ws) (operands_stay a b kinds) e
+operands_stay : (kinds : List Kind) → Stays kinds
+operands_stay [] v [] rs e = ap (operand_roles []) (mixed-none v rs) ∙ e
+operands_stay [] v (w ∷ ws) rs e = cc
+operands_stay (kind ∷ kinds) v ws rs e = first_stays v kind kinds ws (taken kind ws) rs (taken-keeps kind ws) (operands_stay kinds) e
 
 -- ---- the whole instruction
 
-abbrev Same : (a b : ℕ) → Result (List Role) ℕ → (List ℕ → Result (List Role) ℕ) → List ℕ → Type 0
-Same a b (Err rule) g ws = Unit {0}
-Same a b (Ok rs) g ws = g (replaced_words a b rs ws) ≡ Ok rs
+abbrev Same : Result (List Role) ℕ → (List ℕ → Result (List Role) ℕ) → List ℕ → Type 0
+Same (Err rule) g ws = Unit {0}
+Same (Ok rs) g ws = (v : ℕ → ℕ) → g (mixed v rs ws) ≡ Ok rs
 
-fitted-same : (a b : ℕ) (found : Option (List Role)) (g : List ℕ → Option (List Role)) (ws : List ℕ)
-    → ((rs : List Role) → found ≡ Some rs → g (replaced_words a b rs ws) ≡ Some rs) →
-    Same a b (fitted found) (λ xs. fitted (g xs)) ws
-fitted-same a b None g ws h = tt
-fitted-same a b (Some rs) g ws h = ap fitted (h rs refl)
+fitted-same : (found : Option (List Role)) (g : List ℕ → Option (List Role)) (ws : List ℕ)
+    → ((v : ℕ → ℕ) (rs : List Role) → found ≡ Some rs → g (mixed v rs ws) ≡ Some rs) →
+    Same (fitted found) (λ xs. fitted (g xs)) ws
+fitted-same None g ws h = tt
+fitted-same (Some rs) g ws h = λ v. ap fitted (h v rs refl)
 
-row-same : (a b : ℕ) (row : Option Shape) (ws : List ℕ) → Same a b (row_roles row ws) (row_roles row) ws
-row-same a b None ws = tt
-row-same a b (Some shape) ws = fitted-same a b (operand_roles shape.kinds ws) (operand_roles shape.kinds) ws (λ rs e. operands_stay a b shape.kinds ws rs e)
+row-same : (row : Option Shape) (ws : List ℕ) → Same (row_roles row ws) (row_roles row) ws
+row-same None ws = tt
+row-same (Some shape) ws = fitted-same (operand_roles shape.kinds ws) (operand_roles shape.kinds) ws (λ v rs e. operands_stay shape.kinds v ws rs e)
 
-cond-same : (a b : ℕ) (c : Bool) (x y : Result (List Role) ℕ) (g h : List ℕ → Result (List Role) ℕ) (ws : List ℕ) → Same a b x g ws → Same a b y h ws →
-    Same a b (cond c x y) (λ xs. cond c (g xs) (h xs)) ws
-cond-same a b true x y g h ws k l = k
-cond-same a b false x y g h ws k l = l
+cond-same : (c : Bool) (x y : Result (List Role) ℕ) (g h : List ℕ → Result (List Role) ℕ) (ws : List ℕ) → Same x g ws → Same y h ws →
+    Same (cond c x y) (λ xs. cond c (g xs) (h xs)) ws
+cond-same true x y g h ws k l = k
+cond-same false x y g h ws k l = l
 
-inner-same : (a b o : ℕ) (ws : List ℕ) → Same a b (inner_roles o ws) (inner_roles o) ws
-inner-same a b o ws =
-    cond-same a b (o == op.SPEC_CONSTANT_OP) (Err 106) (row_roles (option_map inner_shape (row_of o)) ws) (λ xs. Err 106)
+inner-same : (o : ℕ) (ws : List ℕ) → Same (inner_roles o ws) (inner_roles o) ws
+inner-same o ws =
+    cond-same (o == op.SPEC_CONSTANT_OP) (Err 106) (row_roles (option_map inner_shape (row_of o)) ws) (λ xs. Err 106)
     (row_roles (option_map inner_shape (row_of o))) ws tt
-    (row-same a b (option_map inner_shape (row_of o)) ws)
+    (row-same (option_map inner_shape (row_of o)) ws)
 
-spec_step : (a b t r o : ℕ) (ws : List ℕ) (inner : Result (List Role) ℕ) → Same a b inner (inner_roles o) ws →
-    Same a b (behind (TypeId ∷ DefinedId ∷ Literal ∷ []) inner) spec_constant_roles (t ∷ r ∷ o ∷ ws)
-spec_step a b t r o ws (Err rule) k = tt
-spec_step a b t r o ws (Ok rs) k = ap (behind (TypeId ∷ DefinedId ∷ Literal ∷ [])) k
+spec_step : (t r o : ℕ) (ws : List ℕ) (inner : Result (List Role) ℕ) → Same inner (inner_roles o) ws →
+    Same (behind (TypeId ∷ DefinedId ∷ Literal ∷ []) inner) spec_constant_roles (t ∷ r ∷ o ∷ ws)
+spec_step t r o ws (Err rule) k = tt
+spec_step t r o ws (Ok rs) k = λ v. ap (behind (TypeId ∷ DefinedId ∷ Literal ∷ [])) (k (λ n. v (suc (suc (suc n)))))
 
-spec-same : (a b : ℕ) (ws : List ℕ) → Same a b (spec_constant_roles ws) spec_constant_roles ws
-spec-same a b [] = tt
-spec-same a b (t ∷ []) = tt
-spec-same a b (t ∷ r ∷ []) = tt
-spec-same a b (t ∷ r ∷ o ∷ ws) = spec_step a b t r o ws (inner_roles o ws) (inner-same a b o ws)
+spec-same : (ws : List ℕ) → Same (spec_constant_roles ws) spec_constant_roles ws
+spec-same [] = tt
+spec-same (t ∷ []) = tt
+spec-same (t ∷ r ∷ []) = tt
+spec-same (t ∷ r ∷ o ∷ ws) = spec_step t r o ws (inner_roles o ws) (inner-same o ws)
 
-body-same : (a b o : ℕ) (ws : List ℕ) → Same a b (body_roles o ws) (body_roles o) ws
-body-same a b o ws =
-    cond-same a b (o == op.SPEC_CONSTANT_OP) (spec_constant_roles ws) (row_roles (row_of o) ws) spec_constant_roles (row_roles (row_of o)) ws (spec-same a b ws)
-    (row-same a b (row_of o) ws)
+body-same : (o : ℕ) (ws : List ℕ) → Same (body_roles o ws) (body_roles o) ws
+body-same o ws =
+    cond-same (o == op.SPEC_CONSTANT_OP) (spec_constant_roles ws) (row_roles (row_of o) ws) spec_constant_roles (row_roles (row_of o)) ws (spec-same ws)
+    (row-same (row_of o) ws)
 
-head_step : (a b w : ℕ) (ws : List ℕ) (body : Result (List Role) ℕ) → Same a b body (body_roles (opcode_of w)) ws
-    → Same a b (behind (Opcode ∷ []) body) roles_of (w ∷ ws)
+head_step : (w : ℕ) (ws : List ℕ) (body : Result (List Role) ℕ) → Same body (body_roles (opcode_of w)) ws
+    → Same (behind (Opcode ∷ []) body) roles_of (w ∷ ws)
 unfolding roles_of
-head_step a b w ws (Err rule) k = tt
-head_step a b w ws (Ok rs) k = ap (behind (Opcode ∷ [])) k
+head_step w ws (Err rule) k = tt
+head_step w ws (Ok rs) k = λ v. ap (behind (Opcode ∷ [])) (k (λ n. v (suc n)))
 
-roles-same : (a b : ℕ) (ws : List ℕ) → Same a b (roles_of ws) roles_of ws
+roles-same : (ws : List ℕ) → Same (roles_of ws) roles_of ws
 unfolding roles_of
-roles-same a b [] = tt
-roles-same a b (w ∷ ws) = head_step a b w ws (body_roles (opcode_of w) ws) (body-same a b (opcode_of w) ws)
+roles-same [] = tt
+roles-same (w ∷ ws) = head_step w ws (body_roles (opcode_of w) ws) (body-same (opcode_of w) ws)
 
 -- the words that are put have the same parts
-pub roles_stay : (a b : ℕ) (ws : List ℕ) (rs : List Role) → roles_of ws ≡ Ok rs → roles_of (replaced_words a b rs ws) ≡ Ok rs
-roles_stay a b ws rs e = subst (λ answer. Same a b answer roles_of ws) e (roles-same a b ws)
+pub roles_stay : (v : ℕ → ℕ) (ws : List ℕ) (rs : List Role) → roles_of ws ≡ Ok rs → roles_of (mixed v rs ws) ≡ Ok rs
+roles_stay v ws rs e = subst (λ answer. Same answer roles_of ws) e (roles-same ws) v
 
--- the first word stays
-abbrev HeadStays : (a b w : ℕ) → List ℕ → Result (List Role) ℕ → Type 0
-HeadStays a b w ws (Err rule) = Unit {0}
-HeadStays a b w ws (Ok roles) = (later : List ℕ) × (replaced_words a b roles (w ∷ ws) ≡ w ∷ later)
+-- the first word uses no id
+abbrev HeadStays : Result (List Role) ℕ → Type 0
+HeadStays (Err rule) = Unit {0}
+HeadStays (Ok roles) = (later : List Role) × (roles ≡ Opcode ∷ later)
 
-head_stays : (a b w : ℕ) (ws : List ℕ) (body : Result (List Role) ℕ) → HeadStays a b w ws (behind (Opcode ∷ []) body)
-head_stays a b w ws (Err rule) = tt
-head_stays a b w ws (Ok roles) = (replaced_words a b roles ws, refl)
+head_stays : (body : Result (List Role) ℕ) → HeadStays (behind (Opcode ∷ []) body)
+head_stays (Err rule) = tt
+head_stays (Ok roles) = (roles, refl)
 
-pub first_word_stays : (a b w : ℕ) (ws : List ℕ) (rs : List Role) → roles_of (w ∷ ws) ≡ Ok rs → (later : List ℕ) × (replaced_words a b rs (w ∷ ws) ≡ w ∷ later)
+pub first_part : (w : ℕ) (ws : List ℕ) (rs : List Role) → roles_of (w ∷ ws) ≡ Ok rs → (later : List Role) × (rs ≡ Opcode ∷ later)
 unfolding roles_of
-first_word_stays a b w ws rs e = subst (HeadStays a b w ws) e (head_stays a b w ws (body_roles (opcode_of w) ws))
+first_part w ws rs e = subst HeadStays e (head_stays (body_roles (opcode_of w) ws))

@@ -1,7 +1,8 @@
 -- The ids that instructions name, how often they are used, and one put for another.
-use Rattle.std.specs.Prelude.{ℕ, ◌+◌, Bool, cond, ◌==◌, ◌&&◌, ◌||◌, max, List, [], ◌∷◌, map, filter}
+use Rattle.std.specs.Prelude.{ℕ, ◌+◌, Bool, cond, ◌==◌, ◌&&◌, ◌||◌, max, List, [], ◌∷◌, map, filter, slice_index_or, slice_set}
 use Rattle.std.specs.List.{flat_map, zip, list_any}
 use Rattle.spv_grammar.specs.declared.kind.Role.{Role}
+use Rattle.spv_grammar.specs.declared.kind.Role.TheVariants.{Opcode}
 use Rattle.spv_grammar.specs.Roles.{is_used_id, names_id}
 use Rattle.spv_opcodes.specs.declared.op.TheConstants as op
 use Rattle.spv_module.specs.Instruction.{Instruction, opcode, roles}
@@ -41,6 +42,13 @@ greatest (x ∷ xs) = max x (greatest xs)
 -- one more than the greatest id that instructions name (SPIR-V Specification, section 2.3)
 unfoldable pub bound_of_ids : List Instruction → ℕ
 bound_of_ids insts = greatest (named_ids insts) + 1
+
+-- whether the word at a place of an instruction uses an id
+abbrev pub uses_at : Instruction → ℕ → Bool
+uses_at i at = is_used_id (slice_index_or (roles i) at Opcode)
+
+abbrev pub with_word : Instruction → (at word : ℕ) → Instruction
+with_word i at word = record { offset = i.offset; words = slice_set i.words at word }
 
 -- `to` for each word that uses `from`
 abbrev pub replaced_word : (from to : ℕ) → Role → ℕ → ℕ

@@ -1,11 +1,9 @@
-ghost use Rattle.std.specs.Prelude.{◌≡◌, cond, map, IfOk};
+ghost use Rattle.std.specs.Prelude.{◌≡◌, ◌<◌, ◌^◌, cond, nat_lt};
 ghost use Rattle.spv_grammar.specs.Roles.{names_id};
 ghost use Rattle.spv_module.specs.View.{seen};
-ghost use Rattle.spv_draft.specs.Lines.{told};
 ghost use Rattle.spv_draft.specs.Named.{bound_of_ids, greatest, named_ids, words_with};
 
-use crate::line::Line;
-use spv_base::NoMemory;
+use crate::lines::Lines;
 use spv_grammar::kind::Role;
 use spv_module::View;
 
@@ -29,20 +27,29 @@ fn greatest_in(inst: &View) -> u32
 }
 
 /// The greatest id that instructions name; 0 where they name none.
-fn greatest_of(lines: &[Line]) -> u32
-    ensures { result ≡ greatest (named_ids (map told lines.now)) }
+fn greatest_of(lines: &Lines) -> u32
+    ensures { result ≡ greatest (named_ids lines.now) }
 {
     let mut most: u32 = 0;
-    'lines: for line in lines {
-        most = most.max(greatest_in(&line.view()));
+    'lines: for k in 0..lines.count() {
+        most = most.max(greatest_in(&lines.at(k)));
     }
     most
 }
 
-/// One more than the greatest id that instructions name. A bound of 2^32 is want of memory.
+/// One more than the greatest id that instructions name.
 #[tactic(auto, unfolding(crate::specs::Named::bound_of_ids))]
-pub fn bound_of(lines: &[Line]) -> Result<u32, NoMemory>
-    ensures { IfOk result (λ bound. bound ≡ bound_of_ids (map told lines.now)) }
+pub fn bound_of(lines: &Lines) -> u32
+    requires { bound_of_ids lines.now < 2 ^ 32 }
+    ensures { result ≡ bound_of_ids lines.now }
 {
-    greatest_of(lines).checked_add(1).ok_or(NoMemory)
+    greatest_of(lines) + 1
+}
+
+/// Whether the bound of instructions is a word: whether none of them names the greatest id.
+#[tactic(auto, unfolding(crate::specs::Named::bound_of_ids))]
+pub fn is_bounded(lines: &Lines) -> bool
+    ensures { result ≡ nat_lt (bound_of_ids lines.now) (2 ^ 32) }
+{
+    greatest_of(lines) < u32::MAX
 }

@@ -1,12 +1,10 @@
-ghost use Rattle.std.specs.Prelude.{◌≡◌, ◌+◌, ◌<◌, ◌≤◌, ◌^◌, ◌++◌, ◌∷◌, [], length, map, IfOk, OnOk, OnErr};
+ghost use Rattle.std.specs.Prelude.{◌≡◌, ◌+◌, ◌<◌, ◌≤◌, ◌^◌, ◌++◌, ◌∷◌, [], length, IfOk, OnOk, OnErr};
 ghost use Rattle.spv_module.specs.View.{seen};
-ghost use Rattle.spv_draft.specs.Lines.{told};
-ghost use Rattle.spv_draft.specs.Drafted.{size_in};
 
-use crate::bound::bound_of;
+use crate::bound::{bound_of, is_bounded};
 use crate::fresh::{IdFault, Index, MOST_ID, next_free, with_names};
-use crate::functions::with_function;
-use crate::line::Line;
+use crate::functions::put_function;
+use crate::lines::Lines;
 use crate::replacing::replace_all;
 use crate::uses::Uses;
 use spv_base::{Header, Id, NoMemory};
@@ -17,11 +15,10 @@ use std::marker::Model;
 /// A module under change. It has fewer than 2^32 words, and a growth past that is want of memory.
 #[derive(Debug, Drop)]
 pub struct Draft {
-    alloc: Global,
     header: Header,
-    lines: Vec<Line>,
-    /// The words of the header and of the instructions.
-    size: u32,
+    lines: Lines,
+    /// Room for the section of each instruction.
+    sections: Vec<u8>,
     /// The ids that were handed out.
     given: Vec<u32>,
     /// The ids that are named, where they are known.
@@ -29,43 +26,16 @@ pub struct Draft {
 }
 
 impl Model for Draft {
-    ghost use Rattle.std.specs.Prelude.{◌≡◌, ◌++◌, map, IfSome};
+    ghost use Rattle.std.specs.Prelude.{◌≤◌, ◌++◌, IfSome, length as count_of};
     ghost use Rattle.spv_draft.specs.Drafted.{Drafted};
     ghost use Rattle.spv_draft.specs.Fresh.{Knows};
-    ghost use Rattle.spv_draft.specs.Lines.{told, HasSize};
     ghost use Rattle.spv_draft.specs.Named.{named_ids};
 
     ghost Value = { Drafted };
 
-    ghost view = { λ draft. record { header = draft.header; insts = map told draft.lines.items; given = draft.given.items } };
+    ghost view = { λ draft. record { header = draft.header; insts = draft.lines; given = draft.given.items } };
 
-    ghost invariant = { λ draft. HasSize draft.size draft.lines.items × IfSome draft.index (λ index. Knows index (named_ids (map told draft.lines.items) ++ draft.given.items)) };
-}
-
-/// The number of words with those of an instruction more.
-fn grown(size: u32, line: &Line) -> Result<u32, NoMemory>
-    ensures { IfOk result (λ more. more ≡ size + length (told line.now).words) }
-{
-    size.checked_add(line.count()).ok_or(NoMemory)
-}
-
-/// A number of instructions that is no more than that of their words.
-fn small(count: usize, size: u32) -> u32
-    requires { count ≤ size }
-    ensures { result ≡ count }
-{
-    count as u32
-}
-
-/// Copies of the instructions of a list.
-fn lines_of(alloc: Global, insts: &InstList) -> Result<Vec<Line>, NoMemory>
-    ensures { IfOk result (λ lines. map told lines.items ≡ insts.now) }
-{
-    let mut lines = Vec::new(alloc);
-    'instructions: for k in 0..insts.count() {
-        lines.push(Line::of(alloc, &insts.at(k))?)?;
-    }
-    Ok(lines)
+    ghost invariant = { λ draft. (count_of draft.lines ≤ count_of draft.sections.items) × IfSome draft.index (λ index. Knows index (named_ids draft.lines ++ draft.given.items)) };
 }
 
 /// Adds an id at the end. Where memory is wanting the ids stay as they were.
@@ -77,60 +47,50 @@ fn push_id(ids: &mut Vec<u32>, id: u32) -> Result<(), NoMemory>
     Ok(())
 }
 
-/// The list of instructions of a draft.
-fn list_of(alloc: Global, lines: &[Line]) -> Result<InstList, NoMemory>
-    ensures { IfOk result (λ insts. insts ≡ map told lines.now) }
+/// Sees to it that there are places for a number of sections. There are never fewer than before.
+fn make_room(sections: &mut Vec<u8>, count: usize) -> Result<(), NoMemory>
+    ensures room { OnOk result (count ≤ length sections.new.items) }
+    ensures kept { length sections.old.items ≤ length sections.new.items }
 {
-    let mut insts = InstList::new(alloc);
-    'lines: for line in lines {
-        insts.push_view(line.view())?;
+    if sections.len() < count {
+        sections.resize(count, 0)?;
     }
-    Ok(insts)
-}
-
-/// The words of a header and of instructions.
-fn size_of(lines: &[Line]) -> Result<u32, NoMemory>
-    ensures { IfOk result (λ words. words ≡ size_in (map told lines.now)) }
-{
-    let mut words = 5;
-    'lines: for line in lines {
-        words = grown(words, line)?;
-    }
-    Ok(words)
+    Ok(())
 }
 
 impl Draft {
-    ghost use Rattle.std.specs.Prelude.{[], Some, count_by, slice_get, slice_set, OnOk, OnErr};
+    ghost use Rattle.std.specs.Prelude.{[], Some, count_by, nat_lt, slice_get, slice_set, OnOk, OnErr};
     ghost use Rattle.std.specs.List.{insert as inserted, remove as removed};
     ghost use Rattle.spv_module.specs.Inst.{held};
-    ghost use Rattle.spv_draft.specs.Drafted.{finished, taken_ids};
+    ghost use Rattle.spv_draft.specs.Drafted.{finished, size_in, taken_ids};
     ghost use Rattle.spv_draft.specs.Fresh.{Gives, Knows};
     ghost use Rattle.spv_module.specs.Code.{is_function};
     ghost use Rattle.spv_draft.specs.Functions.{with_function as replaced_function};
-    ghost use Rattle.spv_draft.specs.Named.{replaced};
+    ghost use Rattle.spv_draft.specs.Named.{bound_of_ids, replaced};
     ghost use Rattle.spv_draft.specs.Tallies.{CountsUses};
 
     /// A draft of a module, of which no id was handed out.
-    pub fn of(alloc: Global, flat: &Flat) -> Result<Draft, NoMemory>
-        ensures { IfOk result (λ draft. draft ≡ record { header = flat.now.header; insts = flat.now.insts; given = [] }) }
+    pub fn of(flat: Flat) -> Draft
+        requires { size_in flat.insts < 2 ^ 32 }
+        ensures { result ≡ record { header = flat.header; insts = flat.insts; given = [] } }
     {
-        let lines = lines_of(alloc, flat.insts())?;
-        let size = size_of(&lines)?;
-        Ok(Draft {
-            alloc,
-            header: flat.header(),
+        let (header, insts, sections) = flat.into_parts();
+        let lines = Lines::of(insts);
+        let given = Vec::new(lines.alloc());
+        Draft {
+            header,
             lines,
-            size,
-            given: Vec::new(alloc),
+            sections,
+            given,
             index: None,
-        })
+        }
     }
 
     /// The number of instructions.
     pub fn count(&self) -> u32
         ensures { result ≡ length self.now.insts }
     {
-        small(self.lines.len(), self.size)
+        self.lines.count() as u32
     }
 
     /// The k-th instruction, counted from 0.
@@ -138,7 +98,7 @@ impl Draft {
         requires { k < length self.now.insts }
         ensures { slice_get self.now.insts k ≡ Some (seen result) }
     {
-        self.lines[k as usize].view()
+        self.lines.at(k as usize)
     }
 
     /// Puts an instruction at place k; the later ones follow it. After NoMemory the draft is as before.
@@ -147,10 +107,8 @@ impl Draft {
         ensures ok { OnOk result (self.new ≡ record self.old { insts = inserted self.old.insts k (held inst) }) }
         ensures err { OnErr result (self.new ≡ self.old) }
     {
-        let line = Line::of(self.alloc, &inst.view())?;
-        let size = grown(self.size, &line)?;
-        self.lines.insert(k as usize, line)?;
-        self.size = size;
+        make_room(&mut self.sections, self.lines.count() + 1)?;
+        self.lines.insert(k as usize, &inst.view())?;
         self.index = with_names(self.index.take(), &inst.view());
         Ok(())
     }
@@ -160,8 +118,7 @@ impl Draft {
         requires { k < length self.old.insts }
         ensures { self.new ≡ record self.old { insts = removed self.old.insts k } }
     {
-        let line = self.lines.remove(k as usize);
-        self.size -= line.count();
+        self.lines.remove(k as usize);
         self.index = None;
     }
 
@@ -171,11 +128,7 @@ impl Draft {
         ensures ok { OnOk result (self.new ≡ record self.old { insts = slice_set self.old.insts k (held inst) }) }
         ensures err { OnErr result (self.new ≡ self.old) }
     {
-        let line = Line::of(self.alloc, &inst.view())?;
-        let without = self.size - self.lines[k as usize].count();
-        let size = grown(without, &line)?;
-        self.lines[k as usize] = line;
-        self.size = size;
+        self.lines.put(k as usize, &inst.view())?;
         self.index = None;
         Ok(())
     }
@@ -187,10 +140,9 @@ impl Draft {
         ensures ok { OnOk result (self.new ≡ record self.old { insts = replaced_function f list.now self.old.insts }) }
         ensures err { OnErr result (self.new ≡ self.old) }
     {
-        let lines = with_function(self.alloc, &self.lines, f, list)?;
-        let size = size_of(&lines)?;
-        self.lines = lines;
-        self.size = size;
+        let most = self.lines.count().checked_add(list.count());
+        make_room(&mut self.sections, most.ok_or(NoMemory)?)?;
+        put_function(&mut self.lines, f, list)?;
         self.index = None;
         Ok(())
     }
@@ -237,23 +189,29 @@ impl Draft {
     {
         match self.index.take() {
             Some(index) => Ok(index),
-            None => Index::of(self.alloc, &self.lines, &self.given),
+            None => Index::of(self.lines.alloc(), &self.lines, &self.given),
         }
     }
 
-    /// The module, with the bound that is one more than the greatest id that its instructions name. A bound of 2^32 is want of memory.
-    pub fn finish(self, alloc: Global) -> Result<Flat, NoMemory>
-        ensures { IfOk result (λ flat. flat ≡ finished self) }
+    /// Whether the draft may be finished: whether one more than the greatest id that its instructions name is below 2^32.
+    pub fn is_bounded(&self) -> bool
+        ensures { result ≡ nat_lt (bound_of_ids self.now.insts) (2 ^ 32) }
     {
-        if self.lines.len() > u32::MAX as usize {
-            return Err(NoMemory);
-        }
-        let bound = bound_of(&self.lines)?;
-        let insts = list_of(alloc, &self.lines)?;
+        is_bounded(&self.lines)
+    }
+
+    /// The module, with the bound that is one more than the greatest id that its instructions name.
+    pub fn finish(self) -> Flat
+        requires { bound_of_ids self.insts < 2 ^ 32 }
+        ensures same { result ≡ finished self }
+        ensures small { size_in self.insts < 2 ^ 32 }
+    {
         let header = Header {
-            bound,
+            bound: bound_of(&self.lines),
             ..self.header
         };
-        Flat::new(alloc, header, insts)
+        let mut sections = self.sections;
+        sections.truncate(self.lines.count());
+        Flat::from_parts(header, self.lines.into_list(), sections)
     }
 }

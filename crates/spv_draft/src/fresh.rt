@@ -1,12 +1,11 @@
-ghost use Rattle.std.specs.Prelude.{◌≡◌, ◌++◌, ℕ, List, map, IfOk, IfSome, OnOk};
-ghost use Rattle.spv_draft.specs.Lines.{told};
+ghost use Rattle.std.specs.Prelude.{◌≡◌, ◌++◌, ℕ, List, IfOk, IfSome, OnOk};
 ghost use Rattle.spv_draft.specs.Named.{named_ids, words_with};
 ghost use Rattle.spv_grammar.specs.Roles.{names_id};
 ghost use Rattle.spv_module.specs.View.{seen};
 ghost use Rattle.spv_draft.specs.Tallies.{Adds, Counts};
 ghost use Rattle.spv_draft.specs.Fresh.{IsFirstFree, Knows};
 
-use crate::line::Line;
+use crate::lines::Lines;
 use crate::tally::{Tally, add_named};
 use spv_base::NoMemory;
 use spv_module::View;
@@ -56,12 +55,12 @@ fn add_ids(tally: &mut Tally, ids: &[u32]) -> Result<(), NoMemory>
 }
 
 /// How often each id is named.
-fn tally_named(alloc: Global, lines: &[Line]) -> Result<Tally, NoMemory>
-    ensures { IfOk result (λ tally. Counts tally (named_ids (map told lines.now))) }
+fn tally_named(alloc: Global, lines: &Lines) -> Result<Tally, NoMemory>
+    ensures { IfOk result (λ tally. Counts tally (named_ids lines.now)) }
 {
     let mut tally = Tally::new(alloc);
-    'lines: for line in lines {
-        add_named(&mut tally, &line.view())?;
+    'lines: for k in 0..lines.count() {
+        add_named(&mut tally, &lines.at(k))?;
     }
     Ok(tally)
 }
@@ -78,15 +77,14 @@ pub fn next_free(tally: &Tally, from: u32) -> u32
 }
 
 impl Index {
-    ghost use Rattle.std.specs.Prelude.{◌≡◌, ◌++◌, ◌∷◌, [], map, IfOk, IfSome};
-    ghost use Rattle.spv_draft.specs.Lines.{told};
+    ghost use Rattle.std.specs.Prelude.{◌≡◌, ◌++◌, ◌∷◌, [], IfOk, IfSome};
     ghost use Rattle.spv_draft.specs.Named.{named_ids};
     ghost use Rattle.spv_draft.specs.Fresh.{Knows};
     ghost use Rattle.spv_draft.specs.Tallies.{Adds};
 
     /// The ids that instructions name, and those that were handed out.
-    pub fn of(alloc: Global, lines: &[Line], given: &[u32]) -> Result<Index, NoMemory>
-        ensures { IfOk result (λ index. Knows index (named_ids (map told lines.now) ++ given.now)) }
+    pub fn of(alloc: Global, lines: &Lines, given: &[u32]) -> Result<Index, NoMemory>
+        ensures { IfOk result (λ index. Knows index (named_ids lines.now ++ given.now)) }
     {
         let mut tally = tally_named(alloc, lines)?;
         add_ids(&mut tally, given)?;

@@ -5,7 +5,7 @@ mod bound;
 pub mod draft;
 pub mod fresh;
 mod functions;
-pub mod line;
+pub mod lines;
 mod replacing;
 pub mod tally;
 pub mod uses;

@@ -1,9 +1,8 @@
-ghost use Rattle.std.specs.Prelude.{◌≡◌, map, IfOk};
-ghost use Rattle.spv_draft.specs.Lines.{told};
+ghost use Rattle.std.specs.Prelude.{◌≡◌, IfOk};
 ghost use Rattle.spv_draft.specs.Named.{used_ids};
 ghost use Rattle.spv_draft.specs.Tallies.{Counts};
 
-use crate::line::Line;
+use crate::lines::Lines;
 use crate::tally::{Tally, add_used};
 use spv_base::{Id, NoMemory};
 use std::alloc::Global;
@@ -15,24 +14,23 @@ pub struct Uses {
 }
 
 /// How often each id is used, names and decorations aside.
-fn tally_used(alloc: Global, lines: &[Line]) -> Result<Tally, NoMemory>
-    ensures { IfOk result (λ tally. Counts tally (used_ids (map told lines.now))) }
+fn tally_used(alloc: Global, lines: &Lines) -> Result<Tally, NoMemory>
+    ensures { IfOk result (λ tally. Counts tally (used_ids lines.now)) }
 {
     let mut tally = Tally::new(alloc);
-    'lines: for line in lines {
-        add_used(&mut tally, &line.view())?;
+    'lines: for k in 0..lines.count() {
+        add_used(&mut tally, &lines.at(k))?;
     }
     Ok(tally)
 }
 
 impl Uses {
-    ghost use Rattle.std.specs.Prelude.{◌≡◌, map, IfOk};
-    ghost use Rattle.spv_draft.specs.Lines.{told};
+    ghost use Rattle.std.specs.Prelude.{◌≡◌, IfOk};
     ghost use Rattle.spv_draft.specs.Named.{used_ids};
     ghost use Rattle.spv_draft.specs.Tallies.{counted, CountsUses};
 
-    pub(crate) fn of_lines(alloc: Global, lines: &[Line]) -> Result<Uses, NoMemory>
-        ensures { IfOk result (λ uses. CountsUses uses (map told lines.now)) }
+    pub(crate) fn of_lines(alloc: Global, lines: &Lines) -> Result<Uses, NoMemory>
+        ensures { IfOk result (λ uses. CountsUses uses lines.now) }
     {
         Ok(Uses {
             tally: tally_used(alloc, lines)?,

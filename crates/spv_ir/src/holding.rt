@@ -5,26 +5,27 @@ ghost use Rattle.spv_admission.specs.Admission.{Admits};
 
 use spv_base::{Fault, NoMemory, Words};
 use spv_module::{Flat, encode};
-use spv_placing::placed;
+use spv_placing::{check_size, copied, placed};
 use std::alloc::Global;
 use std::marker::Model;
 
 /// A module of the profile in normal form, of which no function nests deeper than 255. Its bound is one more than the greatest
-/// id that it names.
+/// id that it names, and it has fewer than 2^32 words.
 #[derive(Debug, Drop)]
 pub struct Module {
     flat: Flat,
 }
 
 impl Model for Module {
-    ghost use Rattle.spv_module.specs.Code.{Code};
+    ghost use Rattle.std.specs.Prelude.{◌<◌, ◌^◌, length};
+    ghost use Rattle.spv_module.specs.Code.{Code, spelling};
     ghost use Rattle.spv_profile.specs.Profile.{IsModule};
 
     ghost Value = { Code };
 
     ghost view = { λ m. m.flat };
 
-    ghost invariant = { λ m. IsModule m.flat };
+    ghost invariant = { λ m. IsModule m.flat × (length (spelling m.flat) < 2 ^ 32) };
 }
 
 impl Module {
@@ -32,7 +33,8 @@ impl Module {
 
     /// The module of these instructions.
     pub(crate) fn new(flat: Flat) -> Module
-        requires { IsModule flat }
+        requires holds { IsModule flat }
+        requires small { length (spelling flat) < 2 ^ 32 }
         ensures { result ≡ flat }
     {
         Module { flat }
@@ -44,6 +46,15 @@ impl Module {
         ensures holds { IsModule result.now }
     {
         &self.flat
+    }
+
+    /// What holds its header and its instructions.
+    pub(crate) fn into_flat(self) -> Flat
+        ensures same { result ≡ self }
+        ensures holds { IsModule result }
+        ensures small { length (spelling result) < 2 ^ 32 }
+    {
+        self.flat
     }
 }
 
@@ -61,7 +72,8 @@ pub fn admit(alloc: Global, words: &[u32]) -> Result<Module, Fault>
 {
     let norm = spv_admission::admit(alloc, words)?;
     norm.insts().each_is_instruction();
-    Ok(Module::new(placed(alloc, &norm)?))
+    check_size(&norm)?;
+    Ok(Module::new(placed(norm)))
 }
 
 /// The words of a module.
@@ -75,5 +87,5 @@ pub fn write(alloc: Global, m: &Module) -> Result<Words, NoMemory>
 pub fn copy(alloc: Global, m: &Module) -> Result<Module, NoMemory>
     ensures { IfOk result (λ same. same ≡ m.now) }
 {
-    Ok(Module::new(placed(alloc, &m.flat)?))
+    Ok(Module::new(copied(alloc, &m.flat)?))
 }

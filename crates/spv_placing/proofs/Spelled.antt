@@ -34,3 +34,11 @@ cut_placed at (i ∷ is) h =
 -- a module with its instructions placed behind the header is the one that its words spell
 pub spelled_placed : (code : Code) → AreInstructions code.insts → code_of (spelling code) ≡ record code { insts = placed_from 5 code.insts }
 spelled_placed code h = ap (λ (insts : List Instruction). record { header = code.header; insts = insts }) (cut_placed 5 code.insts h)
+
+-- each instruction has a word
+pub few_from_words : (insts : List Instruction) → AreInstructions insts → length insts ≤ length (flat_map (λ (i : Instruction). i.words) insts)
+few_from_words [] h = omega arith
+few_from_words (i ∷ is) h =
+    let first : IsInstruction i.words (roles i) = h 0 i refl in
+    let later = few_from_words is (λ k j e. h (suc k) j e) in
+    omega (arith, first.some, later, length-append i.words (flat_map (λ (j : Instruction). j.words) is))

@@ -1,7 +1,10 @@
 -- Instructions placed one by one.
-use Rattle.std.proofs.Common.{◌≡◌, ℕ, zero, suc, ◌+◌, List, [], ◌∷◌, ◌++◌, length, drop, slice_get, Some, refl, sym, ap, ◌∙◌, arith, append_assoc, append-nil}
+use Rattle.std.proofs.Common.{◌≡◌, ℕ, zero, suc, ◌+◌, ◌<◌, ◌≤◌, List, [], ◌∷◌, ◌++◌, length, take, drop, slice_get, Some, refl, sym, ap, ◌∙◌, arith, append_assoc, append-nil}
+use Rattle.std.specs.List.{flat_map}
+use Rattle.std.proofs.lemmas.List.{take_all, drop_all, length-append}
+use Rattle.std.proofs.lemmas.List.Concat.{flat_map-append}
 use Rattle.spv_module.specs.Instruction.{Instruction}
-use Rattle.spv_placing.specs.Placing.{placed_from}
+use Rattle.spv_placing.specs.Placing.{placed_from, size_in}
 
 -- from a place in a list on: what stands there, and what stands behind it
 dropped_one : (xs : List Instruction) (k : ℕ) (x : Instruction) → slice_get xs k ≡ Some x → drop k xs ≡ x ∷ drop (suc k) xs
@@ -12,7 +15,7 @@ dropped_one (y ∷ ys) (suc k) x e = dropped_one ys k x e
 suc_more : (k : ℕ) → k + 1 ≡ suc k
 suc_more k = omega arith
 
-dropped_next : (xs : List Instruction) (k : ℕ) (x : Instruction) → slice_get xs k ≡ Some x → drop k xs ≡ x ∷ drop (k + 1) xs
+pub dropped_next : (xs : List Instruction) (k : ℕ) (x : Instruction) → slice_get xs k ≡ Some x → drop k xs ≡ x ∷ drop (k + 1) xs
 dropped_next xs k x e = dropped_one xs k x e ∙ ap (λ (n : ℕ). x ∷ drop n xs) (sym (suc_more k))
 
 -- one instruction more is placed
@@ -27,17 +30,38 @@ placed_next insts after all whole at next k x placed e d p n g =
     ∙ ap (λ (m : ℕ). insts ++ (record { offset = at; words = x.words }) ∷ placed_from m (drop (k + 1) all)) n
     ∙ here
 
-dropped_all : (xs : List Instruction) → drop (length xs) xs ≡ []
-dropped_all [] = refl
-dropped_all (x ∷ xs) = dropped_all xs
-
 -- all are
-pub placed_all : (insts all whole : List Instruction) (at k : ℕ) → insts ++ placed_from at (drop k all) ≡ whole → k ≡ length all → insts ≡ whole
-placed_all insts all whole at k e n =
+pub placed_all : (insts whole : List Instruction) (at k : ℕ) → take k insts ++ placed_from at (drop k insts) ≡ whole → length insts ≤ k → insts ≡ whole
+placed_all insts whole at k e n =
     sym (append-nil insts)
-    ∙ ap (λ (more : List Instruction). insts ++ placed_from at more) (sym (ap (λ (m : ℕ). drop m all) n ∙ dropped_all all))
+    ∙ ap (λ (front : List Instruction). front ++ []) (sym (take_all k insts n))
+    ∙ ap (λ (more : List Instruction). take k insts ++ placed_from at more) (sym (drop_all k insts n))
     ∙ e
 
 pub placed_count : (at : ℕ) (insts : List Instruction) → length (placed_from at insts) ≡ length insts
 placed_count at [] = refl
 placed_count at (i ∷ is) = ap suc (placed_count (at + length i.words) is)
+
+take_more : (xs : List Instruction) (k : ℕ) (x : Instruction) → slice_get xs k ≡ Some x → take (suc k) xs ≡ take k xs ++ x ∷ []
+take_more [] k x e = absurd (cc e)
+take_more (y ∷ ys) zero x e = let same : y ≡ x = cc e in ap (λ z. z ∷ []) same
+take_more (y ∷ ys) (suc k) x e = ap (λ zs. y ∷ zs) (take_more ys k x e)
+
+pub take-at : (xs : List Instruction) (k : ℕ) (x : Instruction) → k < length xs → slice_get xs k ≡ Some x → take (k + 1) xs ≡ take k xs ++ x ∷ []
+take-at xs k x h e = ap (λ (n : ℕ). take n xs) (suc_more k) ∙ take_more xs k x e
+
+pub size-more : (insts : List Instruction) (k : ℕ) (i : Instruction) → k < length insts → slice_get insts k ≡ Some i
+    → size_in (take (k + 1) insts) ≡ size_in (take k insts) + length i.words
+size-more insts k i h e =
+    omega (
+      arith,
+      ap length
+          (ap (flat_map (λ (j : Instruction). j.words)) (take-at insts k i h e)
+          ∙ flat_map-append (λ (j : Instruction). j.words) (take k insts) (i ∷ [])),
+      length-append (flat_map (λ (j : Instruction). j.words) (take k insts)) (flat_map (λ (j : Instruction). j.words) (i ∷ [])),
+      ap length (append-nil i.words),
+    )
+
+pub placed_words : (at : ℕ) (insts : List Instruction) → flat_map (λ (i : Instruction). i.words) (placed_from at insts) ≡ flat_map (λ (i : Instruction). i.words) insts
+placed_words at [] = refl
+placed_words at (i ∷ is) = ap (λ (ws : List ℕ). i.words ++ ws) (placed_words (at + length i.words) is)

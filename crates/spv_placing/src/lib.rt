@@ -3,4 +3,4 @@
 
 mod placing;
 
-pub use placing::placed;
+pub use placing::{check_size, copied, placed};

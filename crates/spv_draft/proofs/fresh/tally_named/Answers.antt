@@ -7,5 +7,5 @@ use Rattle.spv_draft.proofs.fresh.tally_named.Goals as goal
 
 pub lines-preserved : goal.lines-preserved
 lines-preserved c =
-    counts-more (words_with names_id) c.lines.tally c.add_named.new.tally c.args.lines.now c.lines.line-index c.line-item.result (seen c.view.result)
-    (omega arith) c.line-item.is c.view.ensures c.lines.invariant c.in_ok-add_named.ensures
+    counts-more (words_with names_id) c.lines.tally c.add_named.new.tally c.args.lines.now c.lines.k (seen c.at.result) (omega arith) c.at.ensures
+    c.lines.invariant c.in_ok-add_named.ensures

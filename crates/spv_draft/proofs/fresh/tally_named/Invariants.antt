@@ -1,8 +1,7 @@
-use Rattle.std.proofs.Common.{map, take}
-use Rattle.spv_draft.specs.Lines.{told}
+use Rattle.std.proofs.Common.{take}
 use Rattle.spv_draft.specs.Named.{named_ids}
 use Rattle.spv_draft.specs.Tallies.{Counts}
 use Rattle.spv_draft.proofs.fresh.tally_named.Given as goal
 
 abbrev pub invariant-lines : goal.invariant-lines
-invariant-lines l = Counts l.tally (named_ids (map told (take l.line-index l.lines)))
+invariant-lines l = Counts l.tally (named_ids (take l.k l.lines))

@@ -6,5 +6,5 @@ use Rattle.spv_draft.proofs.uses.tally_used.Goals as goal
 
 pub lines-preserved : goal.lines-preserved
 lines-preserved c =
-    counts-more used_by c.lines.tally c.add_used.new.tally c.args.lines.now c.lines.line-index c.line-item.result (seen c.view.result)
-    (omega arith) c.line-item.is c.view.ensures c.lines.invariant c.in_ok-add_used.ensures
+    counts-more used_by c.lines.tally c.add_used.new.tally c.args.lines.now c.lines.k (seen c.at.result) (omega arith) c.at.ensures c.lines.invariant
+    c.in_ok-add_used.ensures

@@ -1,11 +1,17 @@
-use Rattle.spv_module.specs.View.{seen}
-use Rattle.spv_placing.specs.Placing.{placed_from}
-use Rattle.spv_placing.proofs.Steps.{placed_next}
+use Rattle.std.proofs.Common.{◌+◌, ap, arith}
+use Rattle.spv_placing.proofs.Spans.{no_further, placed-more}
 use Rattle.spv_placing.proofs.placing.place_all.Goals as goal
 
--- src/placing.rt:27:5
-pub instructions-preserved : goal.instructions-preserved
-instructions-preserved c =
-    placed_next c.instructions.insts c.push_view.new.self c.args.all.now (placed_from 5 c.args.all.now) c.instructions.at c.in_ok-at.at c.instructions.k (seen c.at-inst.result)
-    (seen c.new.result) c.instructions.invariant c.in_ok-push_view.ensures.ok
-    (cc (c.new.ensures.offset, c.new.ensures.words)) c.in_ok-at.ensures c.at-inst.ensures
+pub overflow_add-at : goal.overflow_add-at
+overflow_add-at c =
+    let h = c.spans.invariant in
+    let far =
+    no_further c.args.pool.now c.args.spans.now.items c.spans.spans.items c.spans.at c.spans.k c.index-span.result.now h (omega (arith, h.long))
+    c.index-span.ensures in
+    omega (arith, far, c.requires.small, c.span_words-at.ensures)
+
+pub spans-preserved : goal.spans-preserved
+spans-preserved c =
+    let h = c.spans.invariant in
+    placed-more c.args.pool.now c.args.spans.now.items c.spans.spans.items c.spans.at c.spans.k c.index-span.result.now h (omega (arith, h.long))
+    c.index-span.ensures (c.spans.at + c.span_words-at.result) (ap (λ n. c.spans.at + n) c.span_words-at.ensures)

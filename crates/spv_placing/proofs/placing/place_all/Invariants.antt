@@ -1,6 +1,5 @@
-use Rattle.std.proofs.Common.{◌≡◌, ◌++◌, drop}
-use Rattle.spv_placing.specs.Placing.{placed_from}
+use Rattle.spv_placing.proofs.Spans.{IsPlaced}
 use Rattle.spv_placing.proofs.placing.place_all.Given as goal
 
-abbrev pub invariant-instructions : goal.invariant-instructions
-invariant-instructions l = l.insts ++ placed_from l.at (drop l.k l.all) ≡ placed_from 5 l.fn.all
+abbrev pub invariant-spans : goal.invariant-spans
+invariant-spans l = IsPlaced l.pool l.initial.spans.items l.spans.items l.at l.k

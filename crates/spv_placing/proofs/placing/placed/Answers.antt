@@ -1,25 +1,58 @@
-use Rattle.std.proofs.Common.{◌≡◌, ◌<◌, List, length, IfOk, sym, ap, subst, ◌∙◌, arith}
+use Rattle.std.proofs.Common.{◌≡◌, List, length, sym, ap, subst, ◌∙◌, arith}
+use Rattle.std.specs.List.{flat_map}
 use Rattle.spv_base.specs.declared.header.Header.{Header}
-use Rattle.spv_module.specs.Code.{Code, code_of, spelling}
+use Rattle.spv_module.specs.Code.{Code}
 use Rattle.spv_module.specs.Instruction.{Instruction}
+use Rattle.spv_module.specs.List.{instructions_in}
+use Rattle.spv_module.proofs.Spans.{spanned}
 use Rattle.spv_placing.specs.Placing.{placed_from}
-use Rattle.spv_placing.proofs.Spelled.{AreInstructions, spelled_placed}
-use Rattle.spv_placing.proofs.Steps.{placed_count}
+use Rattle.spv_placing.proofs.Spelled.{few_from_words, spelled_placed, AreInstructions}
+use Rattle.spv_placing.proofs.Steps.{placed_count, placed_words}
 use Rattle.spv_placing.proofs.placing.placed.Goals as goal
 
--- src/placing.rt:42:5
-pub new-requires : goal.new-requires
-new-requires c =
-    let count : length c.in_ok-insts.insts ≡ length c.insts-2.result.now = ap length (c.in_ok-insts.ensures) ∙ placed_count 5 c.insts-2.result.now in
-    let few : length c.insts-2.result.now < 4294967296 = c.insts-2.ensures.few in
-    omega (arith, count, few)
+pub from_parts-requires-2-clause-few : goal.from_parts-requires-2-clause-few
+from_parts-requires-2-clause-few c =
+    let same = c.into_parts-pool.ensures.insts ∙ c.into_parts-insts.ensures.insts in
+    let whole : AreInstructions c.args.flat.insts =
+    subst AreInstructions same
+    (λ k i at. spanned c.into_parts-pool.result.0.words.items c.into_parts-pool.result.0.roles.items c.into_parts-pool.result.1.items k i
+    c.into_parts-pool.ensures.spans.whole at) in
+    omega (
+      arith,
+      ap length (c.from_parts.ensures ∙ c.place_all.ensures.placed ∙ ap (placed_from 5) same),
+      placed_count 5 c.args.flat.insts,
+      few_from_words c.args.flat.insts whole,
+      c.requires,
+    )
 
--- src/placing.rt:37:1
-pub returns : goal.returns
-returns c =
-    let insts : c.in_ok-insts.insts ≡ placed_from 5 c.args.flat.now.insts = c.in_ok-insts.ensures ∙ ap (placed_from 5) c.insts-2.ensures.same in
-    let whole : AreInstructions c.args.flat.now.insts = subst AreInstructions c.insts.ensures.same c.each_is_instruction.ensures in
-    let same : (record { header = c.header.result; insts = c.in_ok-insts.insts }) ≡ code_of (spelling c.args.flat.now) =
-    ap (λ (h : Header). record { header = h; insts = c.in_ok-insts.insts }) c.header.ensures
-    ∙ ap (λ (is : List Instruction). record { header = c.args.flat.now.header; insts = is }) insts ∙ sym (spelled_placed c.args.flat.now whole) in
-    subst (λ (code : Code). IfOk c.new.result (λ flat. flat ≡ code)) same c.new.ensures
+pub from_parts-requires-2-clause-room : goal.from_parts-requires-2-clause-room
+from_parts-requires-2-clause-room c =
+    c.into_parts-insts.ensures.room
+    ∙ ap length (sym (c.into_parts-pool.ensures.insts ∙ c.into_parts-insts.ensures.insts))
+    ∙ sym (ap length (c.from_parts.ensures ∙ c.place_all.ensures.placed)
+    ∙ placed_count 5 (instructions_in c.into_parts-pool.result.0 c.into_parts-pool.result.1.items))
+
+pub returns-clause-same : goal.returns-clause-same
+returns-clause-same c =
+    let insts : c.from_parts.result ≡ placed_from 5 c.args.flat.insts =
+    c.from_parts.ensures ∙ c.place_all.ensures.placed ∙ ap (placed_from 5) (c.into_parts-pool.ensures.insts ∙ c.into_parts-insts.ensures.insts) in
+    let whole : AreInstructions c.args.flat.insts =
+    subst AreInstructions (c.into_parts-pool.ensures.insts ∙ c.into_parts-insts.ensures.insts)
+    (λ k i at. spanned c.into_parts-pool.result.0.words.items c.into_parts-pool.result.0.roles.items c.into_parts-pool.result.1.items k i
+    c.into_parts-pool.ensures.spans.whole at) in
+    c.from_parts-2.ensures
+    ∙ ap (λ (h : Header). record { header = h; insts = c.from_parts.result }) c.into_parts-insts.ensures.header
+    ∙ ap (λ (is : List Instruction). record { header = c.args.flat.header; insts = is }) insts
+    ∙ sym (spelled_placed c.args.flat whole)
+
+pub returns-clause-small : goal.returns-clause-small
+returns-clause-small c =
+    let insts : c.from_parts.result ≡ placed_from 5 c.args.flat.insts =
+    c.from_parts.ensures ∙ c.place_all.ensures.placed ∙ ap (placed_from 5) (c.into_parts-pool.ensures.insts ∙ c.into_parts-insts.ensures.insts) in
+    omega (
+      arith,
+      ap (λ (code : Code). length (flat_map (λ (i : Instruction). i.words) code.insts)) c.from_parts-2.ensures,
+      ap (λ (is : List Instruction). length (flat_map (λ (i : Instruction). i.words) is)) insts,
+      ap length (placed_words 5 c.args.flat.insts),
+      c.requires,
+    )

@@ -1,5 +1,6 @@
-use Rattle.spv_ir.proofs.Drafts.{drafted_same}
+use Rattle.std.proofs.Common.{◌∙◌}
+use Rattle.spv_ir.proofs.Drafts.{unchanged}
 use Rattle.spv_ir.proofs.holding.Module.draft.Goals as goal
 
 pub returns-clause-sealable : goal.returns-clause-sealable
-returns-clause-sealable c = drafted_same c.args.self.now c.flat.result.now c.of.result c.flat.ensures.holds c.flat.ensures.same c.of.ensures
+returns-clause-sealable c = unchanged c.into_flat.result c.of.result c.into_flat.ensures.holds c.of.ensures ∙ c.into_flat.ensures.same
