@@ -1,8 +1,8 @@
 -- The terminators of blocks stay: those of the block that a body begins in, by induction on the body.
-use Rattle.std.proofs.Common.{◌≡◌, ℕ, Bool, cond, List, [], ◌∷◌, refl, ap, ◌∙◌}
+use Rattle.std.proofs.Common.{◌≡◌, ℕ, cond, List, [], ◌∷◌, refl, ap, ◌∙◌}
 use Rattle.std.specs.Prelude.{◌==◌}
 use Rattle.spv_opcodes.specs.declared.op.TheConstants as op
-use Rattle.spv_blocks.specs.Blocks.{End, BranchIf, Switch, Return, Unreachable}
+use Rattle.spv_blocks.specs.Blocks.{BranchIf, Switch, Return, Unreachable}
 use Rattle.spv_bodies.specs.Bodies.{ByBranch, InPlace, Body, Leaves, Finishes, Step, Enters, Splits, Selects, Switches, Loops, Arms, Last, Also}
 use Rattle.spv_bodies.specs.Listing.{Branching, first_target}
 use Rattle.spv_tree.specs.Sound.{AreFormed, IsFormed}

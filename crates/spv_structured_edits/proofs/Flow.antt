@@ -1,5 +1,5 @@
 -- Exits, branches of headers and back edges stay, by induction on the body.
-use Rattle.std.proofs.Common.{◌≡◌, ◌≢◌, ℕ, Bool, true, List, [], ◌∷◌, length, refl, sym, ap, ◌∙◌, subst}
+use Rattle.std.proofs.Common.{◌≡◌, ◌≢◌, ℕ, true, List, [], ◌∷◌, length, sym, ap, ◌∙◌, subst}
 use Rattle.std.proofs.lemmas.List.{length-map}
 use Rattle.spv_blocks.specs.Blocks.{End}
 use Rattle.spv_walk.specs.Contexts.{Context, InSelection, InArm, InBody, InNext}

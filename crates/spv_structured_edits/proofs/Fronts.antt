@@ -1,11 +1,11 @@
 -- OpPhi name each predecessor once as before: a branch comes from the block that it came from, by induction on the body.
-use Rattle.std.proofs.Common.{◌≡◌, ℕ, Bool, true, List, [], ◌∷◌, map, refl, sym, ap, ◌∙◌, subst}
+use Rattle.std.proofs.Common.{◌≡◌, ℕ, Bool, List, [], ◌∷◌, map, refl, sym, ap, ◌∙◌, subst}
 use Rattle.std.specs.List.{AllByRecursion}
 use Rattle.spv_walk.specs.Phis.{names_each_once}
 use Rattle.spv_bodies.specs.Bodies.{Front, Parameter, Body, Leaves, Finishes, Step, Enters, Splits, Selects, Switches, Loops, Arms, Last, Also}
 use Rattle.spv_bodies.specs.Listing.{Branching, arriving, in_order}
 use Rattle.spv_structured.specs.Structured.{ArmsFit, FrontFits, ParameterFits, ParametersFit}
-use Rattle.spv_editing.specs.Editing.{Edit, edited, edited_arms, edited_branching, steps_before}
+use Rattle.spv_editing.specs.Editing.{Edit, edited, edited_arms, steps_before}
 use Rattle.spv_editing.proofs.Soundness.{arriving-mapped, in-order-mapped, mapped}
 
 -- the blocks that branches come from

@@ -1,5 +1,5 @@
 -- Each arm of a switch is named as before, by induction on the body.
-use Rattle.std.proofs.Common.{◌≡◌, ℕ, true, List, [], ◌∷◌, refl, ap, ◌∙◌}
+use Rattle.std.proofs.Common.{◌≡◌, ℕ, List, [], ◌∷◌, ◌∙◌}
 use Rattle.std.specs.List.{list_all}
 use Rattle.spv_blocks.specs.Blocks.{Switch, end_targets, has}
 use Rattle.spv_bodies.specs.Bodies.{Body, Leaves, Finishes, Step, Enters, Splits, Selects, Switches, Loops, Arms, Last, Also}

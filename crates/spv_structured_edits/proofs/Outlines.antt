@@ -9,7 +9,7 @@ use Rattle.spv_bodies.specs.Listing.{Branching, listed}
 use Rattle.spv_tree.specs.Tree.{words_of}
 use Rattle.spv_tree.specs.Branches.{branches_in}
 use Rattle.spv_tree.specs.Sound.{IsSound}
-use Rattle.spv_structured.specs.Spots.{Spot, bare_block, block_of_spot, blocks_in, spots_in}
+use Rattle.spv_structured.specs.Spots.{Spot, bare_block, block_of_spot, spots_in}
 use Rattle.spv_structured.specs.Laws.{Opens}
 use Rattle.spv_structured.proofs.ListedBlocks.{listed_blocks}
 use Rattle.spv_editing.specs.Editing.{edited_function}

@@ -1,5 +1,5 @@
 -- A selection one of whose arms begins with an instruction: without it both arms go to one block.
-use Rattle.std.proofs.Common.{ℕ, false, [], refl, arith}
+use Rattle.std.proofs.Common.{false, [], refl, arith}
 use Rattle.spv_bodies.specs.Bodies.{Body, Selects, Step}
 use Rattle.spv_bodies.specs.Facts.{leave, of_body, plain, returns}
 use Rattle.spv_structured.specs.Structured.{IsStructured}

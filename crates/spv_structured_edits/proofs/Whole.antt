@@ -1,12 +1,10 @@
 -- Edited functions are structured, and their listings break no rule on structured control flow.
-use Rattle.std.proofs.Common.{ℕ, Bool, List, sym, subst}
-use Rattle.spv_bodies.specs.Bodies.{Function}
+use Rattle.std.proofs.Common.{List, sym, subst}
 use Rattle.spv_bodies.specs.Listing.{Branching}
 use Rattle.spv_tree.specs.Branches.{branches_in}
-use Rattle.spv_tree.specs.Sound.{IsSound}
-use Rattle.spv_structured.specs.Structured.{IsStructured, ParametersFit}
+use Rattle.spv_structured.specs.Structured.{ParametersFit}
 use Rattle.spv_structured.proofs.Unbroken.{structured_is_unbroken}
-use Rattle.spv_editing.specs.Editing.{Edit, edited, edited_function}
+use Rattle.spv_editing.specs.Editing.{edited, edited_function}
 use Rattle.spv_editing.proofs.Kept.{branches-in-kept}
 use Rattle.spv_editing.proofs.Soundness.{sound-kept}
 use Rattle.spv_structured_edits.specs.Laws.{OpensStays, StructuredStays, UnbrokenStays}
