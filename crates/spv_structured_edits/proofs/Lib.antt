@@ -7,3 +7,4 @@ pub mod Unsound
 pub mod Blocks
 pub mod Outlines
 pub mod Walks
+pub mod Exits

@@ -4,6 +4,7 @@
 //! its contract, and does nothing when it is called.
 #![tactic(auto)]
 
+ghost use Rattle.spv_structured_edits.specs.Exits.{ExitsStay};
 ghost use Rattle.spv_structured_edits.specs.Laws.{OpensStays, OutlineStays, StructuredStays, UnbrokenStays, UnsoundMayNot, WalkStays};
 
 /// An edited function is structured as it was, if it was sound, and opens as it did.
@@ -22,4 +23,9 @@ pub fn unbroken_law()
 pub fn blocks_law()
     ensures outline { OutlineStays }
     ensures walk { WalkStays }
+{}
+
+/// As many blocks of an edited function branch to each label, and it has as many nested returns.
+pub fn exits_law()
+    ensures { ExitsStay }
 {}
