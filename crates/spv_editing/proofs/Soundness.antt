@@ -84,7 +84,7 @@ module _ (e : Edit) where
   begins-kept (Loops (ByBranch values) header control inner next continuing merge rest) h = refl
   begins-kept (Loops InPlace header control inner next continuing merge rest) h = h
 
-  target-kept : (b : Body) → begins_at_branch b ≡ true → target (edited e b) ≡ target b
+  pub target-kept : (b : Body) → begins_at_branch b ≡ true → target (edited e b) ≡ target b
   target-kept (Leaves exit) h = refl
   target-kept (Finishes words) h = refl
   target-kept (Step words body) h = absurd (false≢true h)
@@ -107,10 +107,10 @@ module _ (e : Edit) where
 
   -- ---- branches that carry values
 
-  abbrev mapped : List Branching → List Branching
+  abbrev pub mapped : List Branching → List Branching
   mapped all = map (edited_branching e) all
 
-  arriving-mapped : (label : ℕ) (all : List Branching) → arriving label (mapped all) ≡ mapped (arriving label all)
+  pub arriving-mapped : (label : ℕ) (all : List Branching) → arriving label (mapped all) ≡ mapped (arriving label all)
   arriving-mapped label all = filter-mapped (λ branching. nat_eq branching.1.target label) (edited_branching e) all
 
   from-blocks-mapped : (all : List Branching) (blocks : List ℕ) → flat_map (from_block (mapped all)) blocks ≡ mapped (flat_map (from_block all) blocks)
@@ -119,7 +119,7 @@ module _ (e : Edit) where
       (λ i. filter-mapped (λ (branching : Branching). nat_eq branching.0 block) (edited_branching e) all i ++ from-blocks-mapped all blocks i)
       ∙ sym (map-append (edited_branching e) (from_block all block) (flat_map (from_block all) blocks))
 
-  in-order-mapped : (blocks : List ℕ) (all : List Branching) → in_order blocks (mapped all) ≡ mapped (in_order blocks all)
+  pub in-order-mapped : (blocks : List ℕ) (all : List Branching) → in_order blocks (mapped all) ≡ mapped (in_order blocks all)
   in-order-mapped blocks all =
       (λ i. from-blocks-mapped all blocks i ++ others i) ∙ sym (map-append (edited_branching e) (flat_map (from_block all) blocks) (from_others all blocks))
     where
@@ -141,7 +141,7 @@ module _ (e : Edit) where
 
   -- ---- constructs
 
-  end-opcode : (words : List ℕ) → opcode_in (edited_end e words) ≡ opcode_in words
+  pub end-opcode : (words : List ℕ) → opcode_in (edited_end e words) ≡ opcode_in words
   end-opcode [] = refl
   end-opcode (head ∷ operands) = refl
 
@@ -153,7 +153,7 @@ module _ (e : Edit) where
   formed-before all (words ∷ lines) b h formed =
       (All-head (λ line. is_step (opcode_in line) ≡ true) words lines h, formed-before all lines b (All-tail (λ line. is_step (opcode_in line) ≡ true) words lines h) formed)
 
-  targets-kept : (all : List Branching) (arms : Arms) → AreFormed all arms → targets (edited_arms e arms) ≡ targets arms
+  pub targets-kept : (all : List Branching) (arms : Arms) → AreFormed all arms → targets (edited_arms e arms) ≡ targets arms
   targets-kept all (Last arm) h = ap (λ (z : ℕ). z ∷ []) (target-kept arm h.0)
   targets-kept all (Also arm arms) h = λ i. target-kept arm h.0 i ∷ targets-kept all arms h.2 i
 

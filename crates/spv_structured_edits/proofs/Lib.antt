@@ -1,0 +1,10 @@
+pub mod Ends
+pub mod Flow
+pub mod Fronts
+pub mod Names
+pub mod Whole
+pub mod Unsound
+pub mod Blocks
+pub mod Outlines
+pub mod Walks
+pub mod Exits
