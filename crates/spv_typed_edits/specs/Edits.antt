@@ -43,7 +43,7 @@ pub record SameRound (before after : List Instruction) (f : Function) : Type 0 w
 
 -- ---- ids
 
--- an id is a value of the type of which another one is a value in the module before, if that is a value
+-- where an id is a value of some type in the module before, another one is a value of that type in the module after
 abbrev pub HasItsType : (before after : List Instruction) → (id other : ℕ) → Type 0
 HasItsType before after id other = (t : ℕ) → value_type before id ≡ Some t → value_type after other ≡ Some t
 
