@@ -6,6 +6,7 @@ use Rattle.spv_usage.specs.declared.stages.Stage.{Stage}
 use Rattle.spv_usage.specs.declared.stages.Stage.TheVariants.{Opening}
 use Rattle.spv_bodies.specs.Bodies.{Function}
 use Rattle.spv_tree.specs.Sound.{IsSound}
+use Rattle.spv_tree.specs.Tree.{words_of}
 use Rattle.spv_editing.specs.Editing.{Edit, edited_function}
 use Rattle.spv_editing.specs.Showing.{steps_of, uses_of}
 use Rattle.spv_alike.specs.Alike.{AreAlike}
@@ -45,7 +46,8 @@ abbrev pub TypedWhereAlike : Type 0
 TypedWhereAlike =
     (before after : List Instruction) (f : Function) → IsUnbroken before → AreAlike before after → Opens f → IsTyped before f → IsTyped after f
 
--- modules that begin with the same instructions have the same types, where what stands behind declares none
+-- modules that begin with instructions of the same words have the same types, where what stands behind declares none
 abbrev pub TypesStandInFront : Type 0
 TypesStandInFront =
-    (front before after : List Instruction) → DeclareNoTypes before → DeclareNoTypes after → SameTypes (front ++ before) (front ++ after)
+    (front again before after : List Instruction) → words_of again ≡ words_of front → DeclareNoTypes before → DeclareNoTypes after
+    → SameTypes (front ++ before) (again ++ after)

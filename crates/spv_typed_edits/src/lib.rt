@@ -20,7 +20,7 @@ pub fn alike_law()
     ensures functions { TypedWhereAlike }
 {}
 
-/// Modules that begin with the same instructions have the same types, where what stands behind declares none.
+/// Modules that begin with instructions of the same words have the same types, where what stands behind declares none.
 pub fn types_law()
     ensures { TypesStandInFront }
 {}
