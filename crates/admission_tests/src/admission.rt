@@ -80,7 +80,7 @@ const FUNCTION_END: u32 = 0x0001_0038;
 
 /// What is told of words.
 #[derive(Clone, Copy, Debug, PartialEq, Eq)]
-enum Told {
+pub(crate) enum Told {
     Admitted,
     Refused(u16, u32),
     Nesting,
@@ -129,7 +129,8 @@ fn admitted(alloc: Global, words: &[u32]) -> Option<Result<Flat, Fault>> {
     Some(admit(alloc, words))
 }
 
-fn answer_to(alloc: Global, words: &[u32]) -> Result<Option<Told>, NoMemory> {
+/// What is told of words; None where they are too many, or have no header.
+pub(crate) fn answer_to(alloc: Global, words: &[u32]) -> Result<Option<Told>, NoMemory> {
     match admitted(alloc, words) {
         Some(Ok(_)) => Ok(Some(Told::Admitted)),
         Some(Err(Fault::Refused(Refusal { rule, at }))) => Ok(Some(Told::Refused(rule, at))),
@@ -139,27 +140,47 @@ fn answer_to(alloc: Global, words: &[u32]) -> Result<Option<Told>, NoMemory> {
     }
 }
 
+/// Whether of the module with the changes of a case that is told which should be.
+fn is_told(alloc: Global, case: &Case) -> Result<bool, NoMemory> {
+    let words = changed(alloc, case.0)?;
+    Ok(answer_to(alloc, &words)? == Some(case.1))
+}
+
 #[test]
 fn the_lowest_group_is_told(rt: HostRuntime) -> Result<(), Fail> {
-    'cases: for (changes, expected) in CASES.as_slice() {
-        let words = changed(rt.alloc(), changes)?;
-        assert_eq!(rt; answer_to(rt.alloc(), &words)?, Some(*expected));
+    'cases: for case in CASES.as_slice() {
+        let wanted = case.1;
+        assert!(rt; is_told(rt.alloc(), case)?, "{wanted:?}");
     }
     Ok(())
 }
 
+/// The words of the normal form.
+fn normal_words(alloc: Global) -> Result<Vec<u32>, NoMemory> {
+    let mut words = Vec::new(alloc);
+    words.extend_from_slice(&MODULE[..FUNCTION])?;
+    words.extend_from_slice(&JOINED)?;
+    words[3] = BOUND;
+    Ok(words)
+}
+
+/// Whether a module is written so.
+fn is_written(alloc: Global, flat: &Flat, wanted: &[u32]) -> Result<bool, NoMemory> {
+    let words = encode(alloc, flat)?;
+    Ok(words.as_slice() == wanted)
+}
+
+/// Whether the module is given in this form.
+fn is_given(alloc: Global, wanted: &[u32]) -> Result<bool, NoMemory> {
+    match admitted(alloc, &MODULE) {
+        Some(Ok(flat)) => is_written(alloc, &flat, wanted),
+        _ => Ok(false),
+    }
+}
+
 #[test]
 fn a_module_is_given_in_normal_form(rt: HostRuntime) -> Result<(), Fail> {
-    let alloc = rt.alloc();
-    let Some(Ok(flat)) = admitted(alloc, &MODULE) else {
-        assert!(rt; false);
-        return Ok(());
-    };
-    let words = encode(alloc, &flat)?;
-    let mut expected = Vec::new(alloc);
-    expected.extend_from_slice(&MODULE[..FUNCTION])?;
-    expected.extend_from_slice(&JOINED)?;
-    expected[3] = BOUND;
-    assert_eq!(rt; words.as_slice(), expected.as_slice());
+    let wanted = normal_words(rt.alloc())?;
+    assert!(rt; is_given(rt.alloc(), &wanted)?);
     Ok(())
 }

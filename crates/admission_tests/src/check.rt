@@ -271,14 +271,16 @@ fn first_told(alloc: Global, functions: &[u32], f: u32) -> Result<Option<(Told, 
     Ok(Some((told(&whole), told(&one))))
 }
 
+/// Whether of a case that is told which should be.
+fn is_told(alloc: Global, case: &Case) -> Result<bool, NoMemory> {
+    Ok(first_told(alloc, case.1, case.3)? == Some((case.2, case.4)))
+}
+
 #[test]
 fn first_broken_rules_are_told(rt: HostRuntime) -> Result<(), Fail> {
-    'cases: for (case, functions, whole, f, one) in CASES {
-        assert_eq!(rt;
-            first_told(rt.alloc(), functions, f)?,
-            Some((whole, one)),
-            "{case}"
-        );
+    'cases: for case in CASES.as_slice() {
+        let name = case.0;
+        assert!(rt; is_told(rt.alloc(), case)?, "{name}");
     }
     Ok(())
 }

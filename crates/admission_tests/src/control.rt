@@ -177,35 +177,35 @@ fn answer_for(alloc: Global, functions: &[&[u32]]) -> Result<Told, NoMemory> {
     }
 }
 
+/// Whether of the module of these functions this is told.
+fn is_told(alloc: Global, functions: &[&[u32]], wanted: Told) -> Result<bool, NoMemory> {
+    Ok(answer_for(alloc, functions)? == wanted)
+}
+
+/// Whether modules in which no function nests too deep are read, and refused.
+fn shallow_are_told(alloc: Global) -> Result<bool, NoMemory> {
+    // the second; two, of which the earlier is told, also where it is of the greater rule
+    Ok(
+        is_told(alloc, &[&PLAIN], Told::Read(1))?
+            && is_told(alloc, &[&PLAIN, &BARE], Told::Refused(407, 47))?
+            && is_told(alloc, &[&PLAIN, &BARE, &TURNING], Told::Refused(407, 47))?
+            && is_told(alloc, &[&PLAIN, &TURNING, &BARE], Told::Refused(402, 47))?,
+    )
+}
+
+/// The same of a function that nests too deep, with a refused function before and behind.
+fn deep_are_told(alloc: Global, deep: &[u32]) -> Result<bool, NoMemory> {
+    Ok(
+        is_told(alloc, &[&PLAIN, deep], Told::Nesting)?
+            && is_told(alloc, &[&PLAIN, deep, &TURNING], Told::Refused(402, 3384))?
+            && is_told(alloc, &[&PLAIN, &BARE, deep], Told::Refused(407, 47))?,
+    )
+}
+
 #[test]
 fn modules_are_read(rt: HostRuntime) -> Result<(), Fail> {
-    let alloc = rt.alloc();
-    let nested = nested(alloc)?;
-    let deep = nested.as_slice();
-    assert_eq!(rt; answer_for(alloc, &[&PLAIN])?, Told::Read(1));
-    // the second
-    assert_eq!(rt;
-        answer_for(alloc, &[&PLAIN, &BARE])?,
-        Told::Refused(407, 47)
-    );
-    // two: the earlier is told, which is of the greater rule
-    assert_eq!(rt;
-        answer_for(alloc, &[&PLAIN, &BARE, &TURNING])?,
-        Told::Refused(407, 47)
-    );
-    assert_eq!(rt;
-        answer_for(alloc, &[&PLAIN, &TURNING, &BARE])?,
-        Told::Refused(402, 47)
-    );
-    // too deep, and a refused function before and behind
-    assert_eq!(rt; answer_for(alloc, &[&PLAIN, deep])?, Told::Nesting);
-    assert_eq!(rt;
-        answer_for(alloc, &[&PLAIN, deep, &TURNING])?,
-        Told::Refused(402, 3384)
-    );
-    assert_eq!(rt;
-        answer_for(alloc, &[&PLAIN, &BARE, deep])?,
-        Told::Refused(407, 47)
-    );
+    let nested = nested(rt.alloc())?;
+    assert!(rt; shallow_are_told(rt.alloc())?);
+    assert!(rt; deep_are_told(rt.alloc(), &nested)?);
     Ok(())
 }

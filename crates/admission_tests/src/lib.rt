@@ -7,3 +7,5 @@ mod admission;
 mod check;
 #[cfg(test)]
 mod control;
+#[cfg(test)]
+mod whole;

@@ -247,6 +247,27 @@ fn count_bad_globals(alloc: Global, flat: &Flat) -> Result<usize, NoMemory> {
     Ok(bad.len())
 }
 
+/// Whether of a module with these decorations all fit, or all but one.
+fn has_fitting(alloc: Global, decorations: &[u32], fits: bool) -> Result<bool, NoMemory> {
+    match module(alloc, decorations, &VARIABLES)? {
+        Some(flat) => Ok(count_bad_decorations(alloc, &flat)? == usize::from(!fits)),
+        None => Ok(false),
+    }
+}
+
+/// Whether the global variable of a module with these decorations fits, and all others do.
+fn is_fitting(
+    alloc: Global,
+    decorations: &[u32],
+    variable: &[u32],
+    fits: bool,
+) -> Result<bool, NoMemory> {
+    match module(alloc, decorations, variable)? {
+        Some(flat) => Ok(count_bad_globals(alloc, &flat)? == usize::from(!fits)),
+        None => Ok(false),
+    }
+}
+
 #[test]
 fn decorations_stand_on_targets_that_take_them(rt: HostRuntime) -> Result<(), Fail> {
     let cases: [(&[u32], bool); 54] = [
@@ -400,12 +421,10 @@ fn decorations_stand_on_targets_that_take_them(rt: HostRuntime) -> Result<(), Fa
         (&[MEMBER_WITH, 12, 0, decoration::SPEC_ID, 0], false),
     ];
     for (decorations, fits) in cases {
-        let flat = module(rt.alloc(), decorations, &VARIABLES)?;
-        assert!(rt; flat.is_some(), "{decorations:?}");
-        if let Some(flat) = &flat {
-            let bad = count_bad_decorations(rt.alloc(), flat)?;
-            assert_eq!(rt; bad, usize::from(!fits), "{decorations:?}");
-        }
+        assert!(rt;
+            has_fitting(rt.alloc(), decorations, fits)?,
+            "{decorations:?}"
+        );
     }
     Ok(())
 }
@@ -655,14 +674,30 @@ fn variables_fit_their_storage_classes(rt: HostRuntime) -> Result<(), Fail> {
         ),
     ];
     for (case, decorations, variable, fits) in cases {
-        let flat = module(rt.alloc(), decorations, variable)?;
-        assert!(rt; flat.is_some(), "{case}");
-        if let Some(flat) = &flat {
-            let bad = count_bad_globals(rt.alloc(), flat)?;
-            assert_eq!(rt; bad, usize::from(!fits), "{case}");
-        }
+        assert!(rt;
+            is_fitting(rt.alloc(), decorations, variable, fits)?,
+            "{case}"
+        );
     }
     Ok(())
+}
+
+/// Whether the decorations of ids are found.
+fn are_found(found: &Decorations) -> bool {
+    found.literal(42, decoration::BINDING) == Some(7)
+        && found.literal(42, decoration::DESCRIPTOR_SET) == None
+        && found.literal(12, decoration::BLOCK) == Some(0)
+        && found.literal(12, decoration::OFFSET) == None
+        && found.has(12, decoration::BLOCK)
+        && !found.has(42, decoration::BLOCK)
+}
+
+/// Whether those of members are found.
+fn are_found_at_members(found: &Decorations) -> bool {
+    found.member_literal(12, 1, decoration::OFFSET) == Some(4)
+        && found.member_literal(12, 0, decoration::OFFSET) == None
+        && found.has_member(12, 1, decoration::OFFSET)
+        && !found.has_member(1, 12, decoration::OFFSET)
 }
 
 #[test]
@@ -694,17 +729,8 @@ fn literals_are_found(rt: HostRuntime) -> Result<(), Fail> {
     assert!(rt; flat.is_some());
     if let Some(flat) = &flat {
         let found = Decorations::of(rt.alloc(), flat.insts())?;
-        assert_eq!(rt; found.literal(42, decoration::BINDING), Some(7));
-        assert_eq!(rt; found.literal(42, decoration::DESCRIPTOR_SET), None);
-        assert_eq!(rt; found.literal(12, decoration::BLOCK), Some(0));
-        assert_eq!(rt; found.literal(12, decoration::OFFSET), None);
-        assert!(rt; found.has(12, decoration::BLOCK));
-        assert!(rt; !found.has(42, decoration::BLOCK));
-        assert_eq!(rt; found.member_literal(12, 1, decoration::OFFSET), Some(4));
-        assert_eq!(rt; found.member_literal(12, 0, decoration::OFFSET), None);
-        assert!(rt; found.has_member(12, 1, decoration::OFFSET));
-        assert!(rt; !found.has_member(1, 12, decoration::OFFSET));
-        assert_eq!(rt; found.insts().count(), flat.insts().count());
+        assert!(rt; are_found(&found) && are_found_at_members(&found));
+        assert!(rt; found.insts().count() == flat.insts().count());
     }
     Ok(())
 }

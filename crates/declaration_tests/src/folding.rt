@@ -19,32 +19,41 @@ fn two(opcode: u16, a: &Operand, b: &Operand) -> Operand
     evaluate(opcode, &[*a, *b])
 }
 
-#[test]
-fn integers_are_added_by_component(rt: HostRuntime) {
+/// Whether integers are added component by component.
+fn is_sum() -> bool {
     let sum = two(
         op::I_ADD,
         &of_words(&[1, 0xFFFF_FFFF, 3]),
         &of_words(&[4, 2, 6]),
     );
-    assert_eq!(rt; sum, of_words(&[5, 1, 9]));
-    assert_eq!(rt; two(op::U_DIV, &of_word(7), &of_word(0)), of_word(0));
+    sum == of_words(&[5, 1, 9])
 }
 
-#[test]
-fn literals_pick_components(rt: HostRuntime) {
+/// Whether a quotient by 0 is 0.
+fn is_quotient() -> bool {
+    two(op::U_DIV, &of_word(7), &of_word(0)) == of_word(0)
+}
+
+/// Whether literals pick components.
+fn is_picked() -> bool {
     let picked = shuffle(
         &of_words(&[10, 11]),
         &of_words(&[12, 13, 14]),
         &[4, 0xFFFF_FFFF, 0, 2],
     );
-    assert_eq!(rt; picked, of_words(&[14, 0, 10, 12]));
+    picked == of_words(&[14, 0, 10, 12])
+}
+
+/// Whether components are read and set.
+fn is_set() -> bool {
+    let vector = with_component(&of_words(&[1, 2, 3]), 1, 7);
+    vector == of_words(&[1, 7, 3]) && component(&vector, 1) == 7 && component(&vector, 3) == 0
 }
 
 #[test]
-fn components_are_read_and_set(rt: HostRuntime) {
-    let vector = with_component(&of_words(&[1, 2, 3]), 1, 7);
-    assert_eq!(rt; vector, of_words(&[1, 7, 3]));
-    assert_eq!(rt; component(&vector, 1), 7);
-    assert_eq!(rt; component(&vector, 3), 0);
-    assert_eq!(rt; zeros(2), of_words(&[0, 0]));
+fn operations_are_computed(rt: HostRuntime) {
+    assert!(rt; is_sum() && is_quotient());
+    assert!(rt; is_picked());
+    assert!(rt; is_set());
+    assert!(rt; zeros(2) == of_words(&[0, 0]));
 }

@@ -107,6 +107,19 @@ fn kind_in(alloc: Global, flat: &Flat, id: u32) -> Result<u16, NoMemory>
     Ok(definitions.kind(id))
 }
 
+/// Whether the instructions that break a rule are these, after one word was changed.
+fn is_told(
+    alloc: Global,
+    place: usize,
+    word: u32,
+    expected: &[(u32, u16)],
+) -> Result<bool, NoMemory> {
+    match changed(alloc, place, word) {
+        Some(flat) => Ok(broken(alloc, &flat)?.as_slice() == expected),
+        None => Ok(false),
+    }
+}
+
 #[test]
 fn the_rules_on_ids_are_told(rt: HostRuntime) -> Result<(), Fail> {
     let cases: [(&str, usize, u32, &[(u32, u16)]); 12] = [
@@ -149,14 +162,35 @@ fn the_rules_on_ids_are_told(rt: HostRuntime) -> Result<(), Fail> {
         ("a constant's number that no id has", 40, 9, &[]),
     ];
     for (case, place, word, expected) in cases {
-        let flat = changed(rt.alloc(), place, word);
-        assert!(rt; flat.is_some(), "{case}");
-        if let Some(flat) = &flat {
-            let broken = broken(rt.alloc(), flat)?;
-            assert_eq!(rt; broken.as_slice(), expected, "{case}");
-        }
+        assert!(rt; is_told(rt.alloc(), place, word, expected)?, "{case}");
     }
     Ok(())
+}
+
+/// Whether definitions are found by their ids.
+fn are_found(definitions: &Definitions) -> bool {
+    definitions.place(6) == Some(9)
+        && definitions.place(9) == None
+        && definitions.place(u32::MAX) == None
+        && definitions.find(0).is_none()
+        && definitions.kind(6) == op::CONSTANT
+        && definitions.kind(8) == 0
+        && definitions.insts().count() == 15
+}
+
+/// Whether the words of definitions are read.
+fn are_read(definitions: &Definitions) -> bool {
+    definitions.word(5, 2) == 32
+        && definitions.word(5, 4) == 0
+        && definitions.words(6, 1) == [5, 6, 7].as_slice()
+        && definitions.words(6, 4).is_empty()
+        && definitions.words(8, 0).is_empty()
+}
+
+/// Whether both hold of a module.
+fn has_definitions(alloc: Global, flat: &Flat) -> Result<bool, NoMemory> {
+    let definitions = Definitions::of(alloc, flat)?;
+    Ok(are_found(&definitions) && are_read(&definitions))
 }
 
 #[test]
@@ -164,20 +198,8 @@ fn definitions_are_found(rt: HostRuntime) -> Result<(), Fail> {
     let flat = changed(rt.alloc(), 50, 6);
     assert!(rt; flat.is_some());
     if let Some(flat) = &flat {
-        let definitions = Definitions::of(rt.alloc(), flat)?;
-        assert_eq!(rt; definitions.place(6), Some(9));
-        assert_eq!(rt; definitions.place(9), None);
-        assert_eq!(rt; definitions.place(u32::MAX), None);
-        assert!(rt; definitions.find(0).is_none());
-        assert_eq!(rt; definitions.kind(6), op::CONSTANT);
-        assert_eq!(rt; definitions.kind(8), 0);
-        assert_eq!(rt; definitions.word(5, 2), 32);
-        assert_eq!(rt; definitions.word(5, 4), 0);
-        assert_eq!(rt; definitions.words(6, 1), [5, 6, 7].as_slice());
-        assert!(rt; definitions.words(6, 4).is_empty());
-        assert!(rt; definitions.words(8, 0).is_empty());
-        assert_eq!(rt; definitions.insts().count(), 15);
-        assert_eq!(rt; kind_in(rt.alloc(), flat, 1)?, op::FUNCTION);
+        assert!(rt; has_definitions(rt.alloc(), flat)?);
+        assert!(rt; kind_in(rt.alloc(), flat, 1)? == op::FUNCTION);
     }
     Ok(())
 }

@@ -3,7 +3,7 @@ ghost use Rattle.spv_types.specs.Whole.{Rises};
 
 use spv_base::{Id, MAGIC};
 use spv_module::{Flat, decode};
-use spv_types::{ConstKind, tables};
+use spv_types::{ConstKind, Tables, tables};
 use std::alloc::Global;
 use std::test::Fail;
 
@@ -168,14 +168,32 @@ fn module(alloc: Global, words: &[u32; 135]) -> Option<Flat>
     }
 }
 
-#[test]
-fn ids_are_looked_up(rt: HostRuntime) -> Result<(), Fail> {
-    let flat = module(rt.alloc(), &MODULE);
-    assert!(rt; flat.is_some());
-    let Some(flat) = &flat else {
-        return Ok(());
-    };
-    let found = tables(rt.alloc(), flat)?;
+/// Whether an id is a constant of this kind.
+fn is_kind(found: &Tables, number: u32, kind: ConstKind) -> bool {
+    match Id::new(number) {
+        Some(id) => found.constant(id) == kind,
+        None => false,
+    }
+}
+
+/// Whether the word of a constant with this number is this.
+fn is_word(found: &Tables, number: u32, k: u32, word: Option<u32>) -> bool {
+    match Id::new(number) {
+        Some(id) => found.word(id, k) == word,
+        None => false,
+    }
+}
+
+/// Whether a value of a type has so many words.
+fn is_size(found: &Tables, number: u32, cells: Option<u64>) -> bool {
+    match Id::new(number) {
+        Some(id) => found.cells(id) == cells,
+        None => false,
+    }
+}
+
+/// The first id that is no constant of the kind that it should be.
+fn first_other_kind(found: &Tables) -> Option<u32> {
     let kinds = [
         (5, ConstKind::Known),
         (14, ConstKind::Specialised),
@@ -188,9 +206,15 @@ fn ids_are_looked_up(rt: HostRuntime) -> Result<(), Fail> {
         (39, ConstKind::NotConstant),
     ];
     for (number, kind) in kinds {
-        let answer = Id::new(number).map(|id| found.constant(id));
-        assert_eq!(rt; answer, Some(kind), "%{number}");
+        if !is_kind(found, number, kind) {
+            return Some(number);
+        }
     }
+    None
+}
+
+/// The first id one of whose words is another than it should be.
+fn first_other_word(found: &Tables) -> Option<u32> {
     let words = [
         (5, 0, Some(3)),
         (5, 1, None),
@@ -205,9 +229,15 @@ fn ids_are_looked_up(rt: HostRuntime) -> Result<(), Fail> {
         (22, 0, None),
     ];
     for (number, k, word) in words {
-        let answer = Id::new(number).map(|id| found.word(id, k));
-        assert_eq!(rt; answer, Some(word), "%{number} at {k}");
+        if !is_word(found, number, k, word) {
+            return Some(number);
+        }
     }
+    None
+}
+
+/// The first type whose values have other sizes than they should have.
+fn first_other_size(found: &Tables) -> Option<u32> {
     let sizes = [
         (4, Some(1)),
         (7, Some(3)),
@@ -223,8 +253,23 @@ fn ids_are_looked_up(rt: HostRuntime) -> Result<(), Fail> {
         (5, None),
     ];
     for (number, cells) in sizes {
-        let answer = Id::new(number).map(|id| found.cells(id));
-        assert_eq!(rt; answer, Some(cells), "%{number}");
+        if !is_size(found, number, cells) {
+            return Some(number);
+        }
     }
+    None
+}
+
+#[test]
+fn ids_are_looked_up(rt: HostRuntime) -> Result<(), Fail> {
+    let flat = module(rt.alloc(), &MODULE);
+    assert!(rt; flat.is_some());
+    let Some(flat) = &flat else {
+        return Ok(());
+    };
+    let found = tables(rt.alloc(), flat)?;
+    assert!(rt; first_other_kind(&found).is_none());
+    assert!(rt; first_other_word(&found).is_none());
+    assert!(rt; first_other_size(&found).is_none());
     Ok(())
 }

@@ -131,6 +131,11 @@ fn answers(alloc: Global, inst: &[u32]) -> Result<Option<(bool, bool)>, NoMemory
     }
 }
 
+/// Whether the instruction fits so as a type, and so as an operation.
+fn are_answers(alloc: Global, inst: &[u32], ty: bool, operation: bool) -> Result<bool, NoMemory> {
+    Ok(answers(alloc, inst)? == Some((ty, operation)))
+}
+
 #[test]
 fn types_fit(rt: HostRuntime) -> Result<(), Fail> {
     let cases: [(&str, &[u32], bool); 30] = [
@@ -230,11 +235,7 @@ fn types_fit(rt: HostRuntime) -> Result<(), Fail> {
         ),
     ];
     for (case, inst, expected) in cases {
-        assert_eq!(rt;
-            answers(rt.alloc(), inst)?,
-            Some((expected, true)),
-            "{case}"
-        );
+        assert!(rt; are_answers(rt.alloc(), inst, expected, true)?, "{case}");
     }
     Ok(())
 }
@@ -401,11 +402,7 @@ fn operations_of_constants_fit(rt: HostRuntime) -> Result<(), Fail> {
         ),
     ];
     for (case, inst, expected) in cases {
-        assert_eq!(rt;
-            answers(rt.alloc(), inst)?,
-            Some((true, expected)),
-            "{case}"
-        );
+        assert!(rt; are_answers(rt.alloc(), inst, true, expected)?, "{case}");
     }
     Ok(())
 }

@@ -94,6 +94,19 @@ const MODULE: [u32; 76] = [
     0x0001_0038,
 ];
 
+/// Whether an id is a value of this type, and that a vector or a scalar of this shape where one is given.
+fn is_told(kinds: &Kinds, id: u32, t: Option<u32>, shape: Option<(bool, u32)>) -> bool {
+    let shape = shape.map(|(is_boolean, count)| Shape { is_boolean, count });
+    value_type(kinds, id) == t
+        && value_shape(kinds, id) == shape
+        && is_value(kinds, id) == t.is_some()
+        && is_value_of(kinds, 6, id) == (t == Some(6))
+        && pointer_type(kinds, id) == t.filter(|t| *t == 8)
+        && is_pointer_value(kinds, id) == (t == Some(8))
+        && is_ints(kinds, 3, id) == (t == Some(7))
+        && is_bools(kinds, 1, id) == (t == Some(5))
+}
+
 #[test]
 fn values_are_told(rt: HostRuntime) -> Result<(), Fail> {
     let cases: [(&str, u32, Option<u32>, Option<(bool, u32)>); 13] = [
@@ -116,15 +129,7 @@ fn values_are_told(rt: HostRuntime) -> Result<(), Fail> {
     if let Ok(flat) = &flat {
         let kinds = Kinds::of(rt.alloc(), flat)?;
         for (case, id, t, shape) in cases {
-            assert_eq!(rt; value_type(&kinds, id), t, "{case}");
-            let shape = shape.map(|(is_boolean, count)| Shape { is_boolean, count });
-            assert_eq!(rt; value_shape(&kinds, id), shape, "{case}");
-            assert_eq!(rt; is_value(&kinds, id), t.is_some(), "{case}");
-            assert_eq!(rt; is_value_of(&kinds, 6, id), t == Some(6), "{case}");
-            assert_eq!(rt; pointer_type(&kinds, id), t.filter(|t| *t == 8), "{case}");
-            assert_eq!(rt; is_pointer_value(&kinds, id), t == Some(8), "{case}");
-            assert_eq!(rt; is_ints(&kinds, 3, id), t == Some(7), "{case}");
-            assert_eq!(rt; is_bools(&kinds, 1, id), t == Some(5), "{case}");
+            assert!(rt; is_told(&kinds, id, t, shape), "{case}");
         }
     }
     Ok(())

@@ -408,12 +408,17 @@ fn tell(alloc: Global, case: &Case) -> Result<Told, NoMemory> {
     }
 }
 
+/// Whether of a module that is told which the case says.
+fn is_told(alloc: Global, case: &Case) -> Result<bool, NoMemory> {
+    Ok(tell(alloc, case)? == case.4)
+}
+
 #[test]
 fn rules_are_told(rt: HostRuntime) -> Result<(), Fail> {
     'cases: for case in CASES.as_slice() {
         let name = case.0;
-        let told = tell(rt.alloc(), case)?;
-        assert_eq!(rt; told, case.4, "{name}");
+        let told = is_told(rt.alloc(), case)?;
+        assert!(rt; told, "{name}");
     }
     Ok(())
 }

@@ -4,7 +4,7 @@ use spv_base::Refusal;
 use spv_blocks::{Edges, Function, Labels};
 use spv_entering::{enterers, tops};
 use spv_exits::{add_nested, first_crowded, nested_returns};
-use spv_module::decode;
+use spv_module::{Flat, decode};
 use spv_walking::walk;
 use std::alloc::Global;
 use std::test::Fail;
@@ -121,30 +121,55 @@ fn nested(alloc: Global, labels: &Labels, function: &Function) -> Result<usize, 
     Ok(nested_returns(function, &walked))
 }
 
+/// Whether the first block that breaks the rule, with so many nested returns, is this.
+fn is_first(
+    alloc: Global,
+    labels: &Labels,
+    function: &Function,
+    nested: usize,
+    refusal: Option<Refusal>,
+) -> Result<bool, Fail>
+    requires { labels.now ≡ function.now }
+{
+    Ok(first_crowded(alloc, function, labels, nested)? == refusal)
+}
+
+/// Whether that function is told with each of these numbers of nested returns as it should be.
+fn are_first(alloc: Global, labels: &Labels, function: &Function) -> Result<bool, Fail>
+    requires { labels.now ≡ function.now }
+{
+    // two blocks branch to %12, none to %7, one to each of the others
+    let rows = [
+        (0, None),
+        (16_381, None),
+        (16_382, Some(Refusal { rule: 607, at: 74 })),
+        (16_383, Some(Refusal { rule: 607, at: 58 })),
+        (16_384, Some(Refusal { rule: 607, at: 44 })),
+        (usize::MAX, Some(Refusal { rule: 607, at: 44 })),
+    ];
+    for (nested, refusal) in rows {
+        if !is_first(alloc, labels, function, nested, refusal)? {
+            return Ok(false);
+        }
+    }
+    Ok(true)
+}
+
+/// Whether the returns and the branches of the first function of a module are counted as they should be.
+fn are_counted(alloc: Global, flat: &Flat) -> Result<bool, Fail> {
+    let function = Function::of(alloc, flat, 0)?;
+    let labels = Labels::of(alloc, &function)?;
+    // that of %8: %10 stands outside, and OpUnreachable is none
+    Ok(nested(alloc, &labels, &function)? == 1 && are_first(alloc, &labels, &function)?)
+}
+
 #[test]
 fn returns_and_branches_are_counted(rt: HostRuntime) -> Result<(), Fail> {
     let flat = decode(rt.alloc(), &RETURNING).ok();
     assert!(rt; flat.is_some());
     if let Some(flat) = &flat {
-        let function = Function::of(rt.alloc(), flat, 0)?;
-        let labels = Labels::of(rt.alloc(), &function)?;
-        // that of %8: %10 stands outside, and OpUnreachable is none
-        assert_eq!(rt; nested(rt.alloc(), &labels, &function)?, 1);
-        // two blocks branch to %12, none to %7, one to each of the others
-        let rows = [
-            (0, None),
-            (16_381, None),
-            (16_382, Some(Refusal { rule: 607, at: 74 })),
-            (16_383, Some(Refusal { rule: 607, at: 58 })),
-            (16_384, Some(Refusal { rule: 607, at: 44 })),
-            (usize::MAX, Some(Refusal { rule: 607, at: 44 })),
-        ];
-        for (nested, refusal) in rows {
-            let first = first_crowded(rt.alloc(), &function, &labels, nested)?;
-            assert_eq!(rt; first, refusal);
-        }
+        assert!(rt; are_counted(rt.alloc(), flat)?);
     }
-    assert_eq!(rt; add_nested(16_380, 3), 16_383);
-    assert_eq!(rt; add_nested(16_380, usize::MAX), 16_384);
+    assert!(rt; add_nested(16_380, 3) == 16_383 && add_nested(16_380, usize::MAX) == 16_384);
     Ok(())
 }

@@ -1,4 +1,4 @@
-//! Tests of the crates on calls, interfaces, entry points and exits (601 to 607).
+//! Tests of the crates on calls, interfaces, entry points and exits (601 to 607), and of the walk through a function.
 #![tactic(auto)]
 
 #[cfg(test)]
@@ -7,3 +7,5 @@ mod calls;
 mod entries;
 #[cfg(test)]
 mod exits;
+#[cfg(test)]
+mod walking;

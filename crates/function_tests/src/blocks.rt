@@ -97,25 +97,55 @@ fn changed(alloc: Global, place: usize, word: u32) -> Option<Flat> {
     decode(alloc, &words).ok()
 }
 
+/// Whether the four blocks are read.
+fn are_read(function: &Function) -> bool {
+    function.count() == 4
+        && function.label(0) == 7
+        && function.label_at(3) == 60
+        && function.end_at(0) == 45
+        && function.end_at(3) == 69
+        && function.block(0).body.len() == 1
+        && function.construct(0) == Some(Construct::Switch(10))
+        && function.construct(3) == None
+        && matches!(function.end(1), End::Branch(10))
+}
+
+/// Whether the blocks of the first function of a module are read.
+fn first_is_read(alloc: Global, flat: &Flat) -> Result<bool, Fail> {
+    let function = Function::of(alloc, flat, 0)?;
+    Ok(are_read(&function))
+}
+
+/// Whether a module has no second function.
+fn has_one(alloc: Global, flat: &Flat) -> Result<bool, Fail> {
+    let function = Function::of(alloc, flat, 1)?;
+    Ok(function.count() == 0)
+}
+
 #[test]
 fn blocks_are_read(rt: HostRuntime) -> Result<(), Fail> {
     let flat = changed(rt.alloc(), 0, SWITCHING[0]);
     assert!(rt; flat.is_some());
     if let Some(flat) = &flat {
-        let function = Function::of(rt.alloc(), flat, 0)?;
-        assert_eq!(rt; function.count(), 4);
-        assert_eq!(rt; function.label(0), 7);
-        assert_eq!(rt; function.label_at(3), 60);
-        assert_eq!(rt; function.end_at(0), 45);
-        assert_eq!(rt; function.end_at(3), 69);
-        assert_eq!(rt; function.block(0).body.len(), 1);
-        assert_eq!(rt; function.construct(0), Some(Construct::Switch(10)));
-        assert_eq!(rt; function.construct(3), None);
-        assert!(rt; matches!(function.end(1), End::Branch(10)));
-        let none = Function::of(rt.alloc(), flat, 1)?;
-        assert_eq!(rt; none.count(), 0);
+        assert!(rt; first_is_read(rt.alloc(), flat)?);
+        assert!(rt; has_one(rt.alloc(), flat)?);
     }
     Ok(())
+}
+
+/// Whether the second of five blocks is open, up to the label of the third.
+fn is_open(function: &Function) -> bool {
+    function.count() == 5
+        && matches!(function.end(1), End::Open)
+        && function.end_at(1) == 54
+        && function.label(2) == 10
+        && function.end_at(2) == 56
+}
+
+/// The same of the first function of a module.
+fn first_is_open(alloc: Global, flat: &Flat) -> Result<bool, Fail> {
+    let function = Function::of(alloc, flat, 0)?;
+    Ok(is_open(&function))
 }
 
 #[test]
@@ -124,14 +154,43 @@ fn a_label_leaves_a_block_open(rt: HostRuntime) -> Result<(), Fail> {
     let flat = changed(rt.alloc(), 54, 0x0002_00f8);
     assert!(rt; flat.is_some());
     if let Some(flat) = &flat {
-        let function = Function::of(rt.alloc(), flat, 0)?;
-        assert_eq!(rt; function.count(), 5);
-        assert!(rt; matches!(function.end(1), End::Open));
-        assert_eq!(rt; function.end_at(1), 54);
-        assert_eq!(rt; function.label(2), 10);
-        assert_eq!(rt; function.end_at(2), 56);
+        assert!(rt; first_is_open(rt.alloc(), flat)?);
     }
     Ok(())
+}
+
+/// Whether the labels are found, and what is said of them.
+fn are_found(labels: &Labels) -> bool {
+    labels.place(9) == Some(2)
+        && labels.place(11) == None
+        && labels.named(10) == 1
+        && labels.is_first(7)
+        && labels.is_role(7, 10)
+        && !labels.is_role(10, 10)
+        && labels.is_free(8)
+        && !labels.is_free(10)
+        && !labels.stops(7)
+}
+
+/// Whether the blocks to which the first one leads are told.
+fn has_row(alloc: Global, labels: &Labels) -> Result<bool, Fail> {
+    if labels.count() == 0 {
+        return Ok(false);
+    }
+    Ok(labels.row(alloc, 0)?.as_slice() == [1, 2, 1].as_slice())
+}
+
+/// Whether the edges from the first block and to the last one are told.
+fn has_edges(alloc: Global, labels: &Labels) -> Result<bool, Fail> {
+    let edges = Edges::of(alloc, labels)?;
+    Ok(edges.targets.row(0) == [1, 2].as_slice() && edges.predecessors.row(3) == [1, 2].as_slice())
+}
+
+/// Whether all this is told of the first function of a module.
+fn first_is_told(alloc: Global, flat: &Flat) -> Result<bool, Fail> {
+    let function = Function::of(alloc, flat, 0)?;
+    let labels = Labels::of(alloc, &function)?;
+    Ok(are_found(&labels) && has_row(alloc, &labels)? && has_edges(alloc, &labels)?)
 }
 
 #[test]
@@ -139,21 +198,7 @@ fn labels_are_found(rt: HostRuntime) -> Result<(), Fail> {
     let flat = changed(rt.alloc(), 0, SWITCHING[0]);
     assert!(rt; flat.is_some());
     if let Some(flat) = &flat {
-        let function = Function::of(rt.alloc(), flat, 0)?;
-        let labels = Labels::of(rt.alloc(), &function)?;
-        assert_eq!(rt; labels.place(9), Some(2));
-        assert_eq!(rt; labels.place(11), None);
-        assert_eq!(rt; labels.named(10), 1);
-        assert!(rt; labels.is_first(7));
-        assert!(rt; labels.is_role(7, 10));
-        assert!(rt; !labels.is_role(10, 10));
-        assert!(rt; labels.is_free(8));
-        assert!(rt; !labels.is_free(10));
-        assert!(rt; !labels.stops(7));
-        assert_eq!(rt; labels.row(rt.alloc(), 0)?.as_slice(), [1, 2, 1].as_slice());
-        let edges = Edges::of(rt.alloc(), &labels)?;
-        assert_eq!(rt; edges.targets.row(0), [1, 2].as_slice());
-        assert_eq!(rt; edges.predecessors.row(3), [1, 2].as_slice());
+        assert!(rt; first_is_told(rt.alloc(), flat)?);
     }
     Ok(())
 }

@@ -197,74 +197,103 @@ fn change(alloc: Global, draft: &mut Draft, flat: &Flat, edit: Edit) -> Result<(
     Ok(())
 }
 
+/// What is asked of a draft after edits: its name, the edits, the number of instructions, how often 15 is used, the first
+/// fresh id, and the bound.
+type Case = (&'static str, &'static [Edit], u32, u32, u32, u32);
+
+const CASES: [Case; 6] = [
+    ("as it is", &[], 36, 1, 22, 22),
+    ("no multiplication", &[Edit::Remove(32)], 35, 0, 22, 22),
+    (
+        "nor its store",
+        &[Edit::Remove(33), Edit::Remove(32)],
+        34,
+        0,
+        21,
+        21,
+    ),
+    (
+        "the multiplication twice",
+        &[Edit::Insert(32, 33)],
+        37,
+        2,
+        22,
+        22,
+    ),
+    (
+        "the multiplication in place of the load",
+        &[Edit::Put(32, 31)],
+        36,
+        2,
+        22,
+        22,
+    ),
+    (
+        "15 for 20, and 30 for 21",
+        &[Edit::Replace(20, 15), Edit::Replace(21, 30)],
+        36,
+        2,
+        22,
+        31,
+    ),
+];
+
+/// The draft of the shader after the edits of a case, which take instructions from the shader.
+fn drafted(alloc: Global, flat: &Flat, edits: &[Edit]) -> Result<Option<Draft>, NoMemory> {
+    let Some(own) = shader(alloc) else {
+        return Ok(None);
+    };
+    check_size(&own)?;
+    let mut draft = Draft::of(own);
+    for edit in edits {
+        change(alloc, &mut draft, flat, *edit)?;
+    }
+    Ok(Some(draft))
+}
+
+/// Whether 15 is used so often.
+fn uses(alloc: Global, draft: &Draft, used: u32) -> Result<bool, NoMemory> {
+    let uses = draft.uses(alloc)?;
+    Ok(Id::new(15).is_some_and(|id| uses.of(id) == used))
+}
+
+/// Whether the next fresh id is this.
+fn gives(draft: &mut Draft, fresh: u32) -> bool {
+    draft.fresh().ok().map(|id| id.number()) == Some(fresh)
+}
+
+/// Whether the draft, after two fresh ids, becomes a module of so many instructions under this bound.
+fn becomes(draft: Draft, count: u32, bound: u32) -> bool {
+    if !draft.is_bounded() {
+        return false;
+    }
+    let made = draft.finish();
+    made.count() == count && made.header().bound == bound
+}
+
+/// Whether the draft of a case has what is asked of it. Behind the fresh id 21 comes 22, and behind 22 comes 23.
+fn is_right(alloc: Global, flat: &Flat, case: &Case) -> Result<bool, NoMemory> {
+    let Some(mut draft) = drafted(alloc, flat, case.1)? else {
+        return Ok(false);
+    };
+    if draft.count() != case.2 || !uses(alloc, &draft, case.3)? {
+        return Ok(false);
+    }
+    let second = if case.4 == 21 { 22 } else { 23 };
+    if !gives(&mut draft, case.4) || !gives(&mut draft, second) {
+        return Ok(false);
+    }
+    Ok(becomes(draft, case.2, case.5))
+}
+
 #[test]
 fn changes_are_seen_in_uses_fresh_ids_and_the_bound(rt: HostRuntime) -> Result<(), Fail> {
-    // The number of instructions, how often 15 is used, the first fresh id, and the bound.
-    let cases: [(&str, &[Edit], u32, u32, u32, u32); 6] = [
-        ("as it is", &[], 36, 1, 22, 22),
-        ("no multiplication", &[Edit::Remove(32)], 35, 0, 22, 22),
-        (
-            "nor its store",
-            &[Edit::Remove(33), Edit::Remove(32)],
-            34,
-            0,
-            21,
-            21,
-        ),
-        (
-            "the multiplication twice",
-            &[Edit::Insert(32, 33)],
-            37,
-            2,
-            22,
-            22,
-        ),
-        (
-            "the multiplication in place of the load",
-            &[Edit::Put(32, 31)],
-            36,
-            2,
-            22,
-            22,
-        ),
-        (
-            "15 for 20, and 30 for 21",
-            &[Edit::Replace(20, 15), Edit::Replace(21, 30)],
-            36,
-            2,
-            22,
-            31,
-        ),
-    ];
-    for (case, edits, count, used, fresh, bound) in cases {
-        let read = shader(rt.alloc());
-        let drafted = shader(rt.alloc());
-        assert!(rt; read.is_some() && drafted.is_some());
-        if let (Some(flat), Some(own)) = (&read, drafted) {
-            check_size(&own)?;
-            let mut draft = Draft::of(own);
-            for edit in edits {
-                change(rt.alloc(), &mut draft, flat, *edit)?;
-            }
-            let fifteen = Id::new(15).ok_or("15 is an id")?;
-            assert_eq!(rt; draft.count(), count, "{case}");
-            assert_eq!(rt; draft.uses(rt.alloc())?.of(fifteen), used, "{case}");
-            assert_eq!(rt;
-                draft.fresh().ok().map(|id| id.number()),
-                Some(fresh),
-                "{case}"
-            );
-            assert_eq!(rt;
-                draft.fresh().ok().map(|id| id.number()),
-                Some(if fresh == 21 { 22 } else { 23 }),
-                "{case}"
-            );
-            assert!(rt; draft.is_bounded(), "{case}");
-            if draft.is_bounded() {
-                let made = draft.finish();
-                assert_eq!(rt; made.count(), count, "{case}");
-                assert_eq!(rt; made.header().bound, bound, "{case}");
-            }
+    let read = shader(rt.alloc());
+    assert!(rt; read.is_some());
+    if let Some(flat) = &read {
+        'cases: for case in CASES.as_slice() {
+            let name = case.0;
+            assert!(rt; is_right(rt.alloc(), flat, case)?, "{name}");
         }
     }
     Ok(())

@@ -99,54 +99,111 @@ fn changed(alloc: Global, place: usize, word: u32) -> Option<Flat> {
     decode(alloc, &words).ok()
 }
 
+/// Whether the switch of %7 is refused, which has its own block for its merge block, and nothing else.
+fn is_merge_fault(alloc: Global, function: &Function) -> Result<bool, Fail> {
+    let labels = Labels::of(alloc, function)?;
+    match labels.block(7) {
+        Some(block) => Ok(
+            merge_fault(&labels, 7, block) == Some(Refusal { rule: 403, at: 41 })
+                && loop_fault(false, block) == None
+                && open_fault(function) == None,
+        ),
+        None => Ok(false),
+    }
+}
+
+/// The same of the first function of a module.
+fn has_merge_fault(alloc: Global, flat: &Flat) -> Result<bool, Fail> {
+    let function = Function::of(alloc, flat, 0)?;
+    is_merge_fault(alloc, &function)
+}
+
+/// Whether in the first function of a module the block is refused that ends without a terminator.
+fn has_open_fault(alloc: Global, flat: &Flat) -> Result<bool, Fail> {
+    let function = Function::of(alloc, flat, 0)?;
+    Ok(open_fault(&function) == Some(Refusal { rule: 401, at: 54 }))
+}
+
 #[test]
 fn blocks_are_looked_at(rt: HostRuntime) -> Result<(), Fail> {
     // the switch of %7 with %7 as its own merge block
     let flat = changed(rt.alloc(), 42, 7);
     assert!(rt; flat.is_some());
     if let Some(flat) = &flat {
-        let function = Function::of(rt.alloc(), flat, 0)?;
-        let labels = Labels::of(rt.alloc(), &function)?;
-        let block = labels.block(7);
-        assert!(rt; block.is_some());
-        if let Some(block) = block {
-            assert_eq!(rt;
-                merge_fault(&labels, 7, block),
-                Some(Refusal { rule: 403, at: 41 })
-            );
-            assert_eq!(rt; loop_fault(false, block), None);
-        }
-        assert_eq!(rt; open_fault(&function), None);
-    }
-    // %10 = OpLabel in the place of the first OpBranch %10
-    let flat = changed(rt.alloc(), 54, 0x0002_00f8);
-    assert!(rt; flat.is_some());
-    if let Some(flat) = &flat {
-        let function = Function::of(rt.alloc(), flat, 0)?;
-        assert_eq!(rt; open_fault(&function), Some(Refusal { rule: 401, at: 54 }));
+        assert!(rt; has_merge_fault(rt.alloc(), flat)?);
     }
     Ok(())
 }
 
 #[test]
+fn an_open_block_is_looked_at(rt: HostRuntime) -> Result<(), Fail> {
+    // %10 = OpLabel in the place of the first OpBranch %10
+    let flat = changed(rt.alloc(), 54, 0x0002_00f8);
+    assert!(rt; flat.is_some());
+    if let Some(flat) = &flat {
+        assert!(rt; has_open_fault(rt.alloc(), flat)?);
+    }
+    Ok(())
+}
+
+/// Whether of a terminator at 45 this rule is broken.
+fn breaks(
+    alloc: Global,
+    construct: Option<Construct>,
+    is_loop: bool,
+    is_next: bool,
+    end: &End,
+    rule: Option<u16>,
+) -> Result<bool, Fail> {
+    let wanted = rule.map(|rule| Refusal { rule, at: 45 });
+    Ok(end_fault(alloc, construct, is_loop, is_next, end, 45)? == wanted)
+}
+
+#[test]
 fn terminators_are_looked_at(rt: HostRuntime) -> Result<(), Fail> {
-    let alloc = rt.alloc();
-    let bare = end_fault(alloc, None, false, false, &End::BranchIf(8, 9), 45)?;
-    assert_eq!(rt; bare, Some(Refusal { rule: 407, at: 45 }));
     let header = Some(Construct::Loop(8, 9));
-    let split = end_fault(alloc, header, true, false, &End::BranchIf(9, 7), 45)?;
-    assert_eq!(rt; split, Some(Refusal { rule: 410, at: 45 }));
-    assert_eq!(rt;
-        end_fault(alloc, header, true, false, &End::BranchIf(9, 8), 45)?,
-        None
+    assert!(rt;
+        breaks(
+            rt.alloc(),
+            None,
+            false,
+            false,
+            &End::BranchIf(8, 9),
+            Some(407)
+        )?
     );
-    let back = end_fault(alloc, None, false, true, &End::Return, 45)?;
-    assert_eq!(rt; back, Some(Refusal { rule: 405, at: 45 }));
-    assert!(rt; same_literal(alloc, &[(1, 8), (2, 9), (1, 9)])?);
-    assert!(rt; !same_literal(alloc, &[(1, 8), (2, 8)])?);
-    assert_eq!(rt;
-        earlier(back, Some(Refusal { rule: 403, at: 45 })),
-        Some(Refusal { rule: 403, at: 45 })
+    assert!(rt;
+        breaks(
+            rt.alloc(),
+            header,
+            true,
+            false,
+            &End::BranchIf(9, 7),
+            Some(410)
+        )?
     );
+    assert!(rt; breaks(rt.alloc(), header, true, false, &End::BranchIf(9, 8), None)?);
+    assert!(rt; breaks(rt.alloc(), None, false, true, &End::Return, Some(405))?);
+    Ok(())
+}
+
+/// Whether of two refusals at one place the one by the lesser rule is the earlier.
+fn is_earlier(greater: u16, lesser: u16) -> bool {
+    let one = Some(Refusal {
+        rule: greater,
+        at: 45,
+    });
+    let other = Some(Refusal {
+        rule: lesser,
+        at: 45,
+    });
+    earlier(one, other) == other
+}
+
+#[test]
+fn literals_and_refusals_are_compared(rt: HostRuntime) -> Result<(), Fail> {
+    assert!(rt; same_literal(rt.alloc(), &[(1, 8), (2, 9), (1, 9)])?);
+    assert!(rt; !same_literal(rt.alloc(), &[(1, 8), (2, 8)])?);
+    assert!(rt; is_earlier(405, 403));
     Ok(())
 }

@@ -5,8 +5,10 @@ ghost use Rattle.spv_types.specs.Whole.{Rises};
 ghost use Rattle.spv_functions.specs.Functions.{IsDeclared};
 
 use spv_base::{Fault, NoMemory};
+use spv_blocks::{Function, Labels};
 use spv_functions::{Functions, normalize, parse};
 use spv_module::{Flat, InstList, decode};
+use spv_sources::{is_front, is_loop};
 use spv_tree::flatten;
 use spv_types::tables;
 use std::alloc::Global;
@@ -136,11 +138,28 @@ const FRONT: [u32; 50] = [
     UINT,
 ];
 
+/// A function with a loop: %20 branches to the header %21, whose OpPhi %40 takes %16 from %20 and itself from the continue
+/// target %23; behind the loop's merge block %24 a joined block %25.
+const TURNING: [u32; 46] = [
+    FUNCTION, VOID, MAIN, 0, ACTION, LABEL, 20, BRANCH, 21, LABEL, 21, NO_LINE, PHI, UINT, 40,
+    SEVEN, 20, 40, 23, LOOP, 24, 23, 0, BRANCH, 23, LABEL, 23, WEIGHTED, TRUE, 21, 24, 1, 1, LABEL,
+    24, BRANCH, 25, LABEL, 25, PHI_OF_1, UINT, 41, SEVEN, 24, RETURN, END,
+];
+
+/// Its labels: whether the block is a front, and whether it is a loop's header.
+const FRONTS: [(u32, bool, bool); 5] = [
+    (20, false, false),
+    (21, true, true),
+    (23, true, false),
+    (24, true, false),
+    (25, false, false),
+];
+
 /// The functions of a module, the number of one of them, and its normal form.
 type Case = (&'static [u32], u32, &'static [u32]);
 
 /// Functions with each kind of item.
-const CASES: [Case; 11] = [
+const CASES: [Case; 12] = [
     // one block
     (
         &[
@@ -242,6 +261,16 @@ const CASES: [Case; 11] = [
             FUNCTION, VOID, MAIN, 0, ACTION, LABEL, 20, BRANCH, 21, LABEL, 21, LOOP, 24, 23, 0,
             BRANCH, 22, LABEL, 22, BRANCH_IF, TRUE, 24, 25, LABEL, 25, BRANCH, 23, LABEL, 23,
             BRANCH, 21, LABEL, 24, RETURN, END,
+        ],
+    ),
+    // a loop without a body, whose header has an OpPhi behind a line mark, and a joined block behind its merge block
+    (
+        &TURNING,
+        0,
+        &[
+            FUNCTION, VOID, MAIN, 0, ACTION, LABEL, 20, BRANCH, 21, LABEL, 21, PHI, UINT, 40,
+            SEVEN, 20, 40, 23, LOOP, 24, 23, 0, BRANCH, 23, LABEL, 23, BRANCH_IF, TRUE, 21, 24,
+            LABEL, 24, COPY, UINT, 41, SEVEN, RETURN, END,
         ],
     ),
     // a call of another function
@@ -423,26 +452,69 @@ fn broken_rule(alloc: Global, functions: &[u32]) -> Result<Option<u16>, NoMemory
     }
 }
 
+/// Whether each front is told.
+fn are_told(labels: &Labels) -> bool {
+    'each: for (label, front, header) in FRONTS {
+        if is_front(labels, label) != front || is_loop(labels, label) != header {
+            return false;
+        }
+    }
+    true
+}
+
+/// Whether each front of the first function of a module is told.
+fn fronts_are_told_in(alloc: Global, functions: &[u32]) -> Result<bool, NoMemory> {
+    let Some(flat) = module(alloc, functions)? else {
+        return Ok(false);
+    };
+    let function = Function::of(alloc, &flat, 0)?;
+    let labels = Labels::of(alloc, &function)?;
+    Ok(are_told(&labels))
+}
+
+#[test]
+fn fronts_are_told(rt: HostRuntime) -> Result<(), Fail> {
+    assert!(rt; fronts_are_told_in(rt.alloc(), &TURNING)?);
+    Ok(())
+}
+
+/// Whether the function of a case has the normal form that it should have.
+fn is_normalized(alloc: Global, case: &Case) -> Result<bool, NoMemory> {
+    let words = normal_form(alloc, case.0, case.1)?;
+    Ok(words.as_slice() == case.2)
+}
+
 #[test]
 fn functions_are_normalized(rt: HostRuntime) -> Result<(), Fail> {
     'cases: for case in CASES.as_slice() {
-        let words = normal_form(rt.alloc(), case.0, case.1)?;
-        assert_eq!(rt; words.as_slice(), case.2);
+        let wanted = case.2;
+        assert!(rt; is_normalized(rt.alloc(), case)?, "{wanted:?}");
     }
     Ok(())
 }
 
+/// Whether all functions of a module have these normal forms.
+fn are_normalized(alloc: Global, functions: &[u32], wanted: &[u32]) -> Result<bool, NoMemory> {
+    let words = normal_forms(alloc, functions)?;
+    Ok(words.as_slice() == wanted)
+}
+
 #[test]
 fn functions_are_read_from_one_table(rt: HostRuntime) -> Result<(), Fail> {
-    let words = normal_forms(rt.alloc(), &TWO)?;
-    assert_eq!(rt; words.as_slice(), TWO_NORMAL.as_slice());
+    assert!(rt; are_normalized(rt.alloc(), &TWO, &TWO_NORMAL)?);
     Ok(())
+}
+
+/// Whether a module is refused by the rule that it should be.
+fn is_refused(alloc: Global, refused: &Refused) -> Result<bool, NoMemory> {
+    Ok(broken_rule(alloc, refused.0)? == Some(refused.1))
 }
 
 #[test]
 fn broken_functions_are_refused(rt: HostRuntime) -> Result<(), Fail> {
     'refused: for refused in REFUSED.as_slice() {
-        assert_eq!(rt; broken_rule(rt.alloc(), refused.0)?, Some(refused.1));
+        let rule = refused.1;
+        assert!(rt; is_refused(rt.alloc(), refused)?, "{rule}");
     }
     Ok(())
 }

@@ -1,4 +1,5 @@
 use crate::tests::{encoded, ends, with_input};
+use std::alloc::Global;
 use std::test::Fail;
 
 // The doubling shader as a front end writes it: with the import of extended instructions, names, a LocalSize and a
@@ -38,15 +39,24 @@ const FIRST_NAME: usize = 29;
 
 const BEHIND_NAMES: usize = 58;
 
+/// The bytes of the shader without its source and its names.
+fn stripped(alloc: Global) -> Result<Vec<u8>, Fail> {
+    let mut bytes = encoded(alloc, &FRONT_END[..FIRST_NAME], false)?;
+    let rest = encoded(alloc, &FRONT_END[BEHIND_NAMES..], false)?;
+    bytes.extend_from_slice(rest.as_slice())?;
+    Ok(bytes)
+}
+
+/// Whether a run over these bytes writes others.
+fn becomes(alloc: Global, shader: &[u8], expected: &[u8]) -> Result<bool, Fail> {
+    let mut memory = with_input(alloc, 1000, shader)?;
+    Ok(ends(alloc, &mut memory, 0, "")? && memory.written() == expected)
+}
+
 #[test]
 fn a_shader_as_a_front_end_writes_it_is_stripped(rt: HostRuntime) -> Result<(), Fail> {
-    let alloc = rt.alloc();
-    let shader = encoded(alloc, &FRONT_END, false)?;
-    let mut expected = encoded(alloc, &FRONT_END[..FIRST_NAME], false)?;
-    let rest = encoded(alloc, &FRONT_END[BEHIND_NAMES..], false)?;
-    expected.extend_from_slice(rest.as_slice())?;
-    let mut memory = with_input(alloc, 1000, shader.as_slice())?;
-    assert!(rt; ends(alloc, &mut memory, 0, "")?);
-    assert_eq!(rt; memory.written(), expected.as_slice());
+    let shader = encoded(rt.alloc(), &FRONT_END, false)?;
+    let expected = stripped(rt.alloc())?;
+    assert!(rt; becomes(rt.alloc(), shader.as_slice(), expected.as_slice())?);
     Ok(())
 }
