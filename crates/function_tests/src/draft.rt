@@ -1,154 +1,23 @@
-use spv_base::{Id, MAGIC, NoMemory};
+use crate::modules::module;
+use spv_base::{Id, NoMemory};
 use spv_draft::Draft;
-use spv_module::{Flat, Inst, decode};
+use spv_module::{Flat, Inst};
 use spv_placing::check_size;
 use std::alloc::Global;
 use std::test::Fail;
+use test_texts::numbers;
 
-// A compute shader that doubles each number of a buffer: one block, 21 ids.
-const DOUBLING: [u32; 141] = [
-    0x0723_0203,
-    0x0001_0600,
-    0,
-    0x16,
-    0,
-    0x0002_0011,
-    1,
-    0x0003_000e,
-    0,
-    1,
-    0x0007_000f,
-    5,
-    1,
-    0x6e69_616d,
-    0,
-    2,
-    3,
-    0x0006_0010,
-    1,
-    0x11,
-    0x40,
-    1,
-    1,
-    0x0003_0003,
-    2,
-    0x1c2,
-    0x0004_0005,
-    1,
-    0x6e69_616d,
-    0,
-    0x0004_0047,
-    2,
-    0xb,
-    0x1c,
-    0x0004_0047,
-    3,
-    0x22,
-    0,
-    0x0004_0047,
-    3,
-    0x21,
-    0,
-    0x0003_0047,
-    4,
-    2,
-    0x0005_0048,
-    4,
-    0,
-    0x23,
-    0,
-    0x0004_0047,
-    5,
-    6,
-    4,
-    0x0002_0013,
-    6,
-    0x0003_0021,
-    7,
-    6,
-    0x0004_0015,
-    8,
-    0x20,
-    0,
-    0x0004_0017,
-    9,
-    8,
-    3,
-    0x0004_0020,
-    0xa,
-    1,
-    9,
-    0x0003_001d,
-    5,
-    8,
-    0x0003_001e,
-    4,
-    5,
-    0x0004_0020,
-    0xb,
-    0xc,
-    4,
-    0x0004_0020,
-    0xc,
-    0xc,
-    8,
-    0x0004_0020,
-    0xd,
-    1,
-    8,
-    0x0004_002b,
-    8,
-    0xe,
-    0,
-    0x0004_002b,
-    8,
-    0xf,
-    2,
-    0x0004_003b,
-    0xa,
-    2,
-    1,
-    0x0004_003b,
-    0xb,
-    3,
-    0xc,
-    0x0005_0036,
-    6,
-    1,
-    0,
-    7,
-    0x0002_00f8,
-    0x10,
-    0x0005_0041,
-    0xd,
-    0x11,
-    2,
-    0xe,
-    0x0004_003d,
-    8,
-    0x12,
-    0x11,
-    0x0006_0041,
-    0xc,
-    0x13,
-    3,
-    0xe,
-    0x12,
-    0x0004_003d,
-    8,
-    0x14,
-    0x13,
-    0x0005_0084,
-    8,
-    0x15,
-    0x14,
-    0xf,
-    0x0003_003e,
-    0x13,
-    0x15,
-    0x0001_00fd,
-    0x0001_0038,
-];
+/// A compute shader that doubles each number of a buffer: one block, 21 ids.
+const DOUBLING: &str = "
+0x07230203 0x00010600 0 22 0 0x00020011 1 0x0003000e 0 1 0x0007000f 5 1 0x6e69616d 0 2 3
+0x00060010 1 17 64 1 1 0x00030003 2 450 0x00040005 1 0x6e69616d 0 0x00040047 2 11 28
+0x00040047 3 34 0 0x00040047 3 33 0 0x00030047 4 2 0x00050048 4 0 35 0 0x00040047 5 6 4 0x00020013 6
+0x00030021 7 6 0x00040015 8 32 0 0x00040017 9 8 3 0x00040020 10 1 9 0x0003001d 5 8 0x0003001e 4 5
+0x00040020 11 12 4 0x00040020 12 12 8 0x00040020 13 1 8 0x0004002b 8 14 0 0x0004002b 8 15 2
+0x0004003b 10 2 1 0x0004003b 11 3 12 0x00050036 6 1 0 7 0x000200f8 16 0x00050041 13 17 2 14
+0x0004003d 8 18 17 0x00060041 12 19 3 14 18 0x0004003d 8 20 19 0x00050084 8 21 20 15
+0x0003003e 19 21 0x000100fd 0x00010038
+";
 
 /// A change of a draft.
 #[derive(Clone, Copy, Debug)]
@@ -163,11 +32,12 @@ enum Edit {
     Replace(u32, u32),
 }
 
-fn shader(alloc: Global) -> Option<Flat> {
-    if DOUBLING[0] != MAGIC {
-        return None;
+/// The shader.
+fn shader(alloc: Global) -> Result<Option<Flat>, NoMemory> {
+    match numbers(alloc, DOUBLING) {
+        Ok(words) => Ok(module(alloc, words.as_slice())),
+        Err(_) => Err(NoMemory),
     }
-    decode(alloc, &DOUBLING).ok()
 }
 
 /// Makes a change, where its places are there.
@@ -240,7 +110,7 @@ const CASES: [Case; 6] = [
 
 /// The draft of the shader after the edits of a case, which take instructions from the shader.
 fn drafted(alloc: Global, flat: &Flat, edits: &[Edit]) -> Result<Option<Draft>, NoMemory> {
-    let Some(own) = shader(alloc) else {
+    let Some(own) = shader(alloc)? else {
         return Ok(None);
     };
     check_size(&own)?;
@@ -288,7 +158,7 @@ fn is_right(alloc: Global, flat: &Flat, case: &Case) -> Result<bool, NoMemory> {
 
 #[test]
 fn changes_are_seen_in_uses_fresh_ids_and_the_bound(rt: HostRuntime) -> Result<(), Fail> {
-    let read = shader(rt.alloc());
+    let read = shader(rt.alloc())?;
     assert!(rt; read.is_some());
     if let Some(flat) = &read {
         'cases: for case in CASES.as_slice() {

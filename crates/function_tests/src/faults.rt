@@ -1,102 +1,37 @@
+use crate::modules::module;
 use spv_base::Refusal;
 use spv_blocks::{Construct, End, Function, Labels};
 use spv_faults::{earlier, end_fault, loop_fault, merge_fault, open_fault, same_literal};
-use spv_module::{Flat, decode};
+use spv_module::Flat;
 use std::alloc::Global;
 use std::test::Fail;
+use test_texts::{Unread, numbers};
 
-// A function that switches over a constant, with a line mark between the merge instruction and the terminator.
-const SWITCHING: [u32; 71] = [
-    // the header; OpCapability Shader; OpMemoryModel Logical GLSL450
-    0x0723_0203,
-    0x0001_0600,
-    0,
-    20,
-    0,
-    0x0002_0011,
-    1,
-    0x0003_000e,
-    0,
-    1,
-    // OpEntryPoint GLCompute %1 "main"; OpExecutionMode %1 LocalSize 1 1 1
-    0x0005_000f,
-    5,
-    1,
-    0x6e69_616d,
-    0,
-    0x0006_0010,
-    1,
-    17,
-    1,
-    1,
-    1,
-    // %3 = OpTypeVoid; %4 = OpTypeFunction %3; %5 = OpTypeInt 32 0; %6 = OpConstant %5 7
-    0x0002_0013,
-    3,
-    0x0003_0021,
-    4,
-    3,
-    0x0004_0015,
-    5,
-    32,
-    0,
-    0x0004_002b,
-    5,
-    6,
-    7,
-    // %1 = OpFunction %3 None %4
-    0x0005_0036,
-    3,
-    1,
-    0,
-    4,
-    // %7 = OpLabel; OpSelectionMerge %10 None; OpNoLine; OpSwitch %6 %8 1 %9 2 %8
-    0x0002_00f8,
-    7,
-    0x0003_00f7,
-    10,
-    0,
-    0x0001_013d,
-    0x0007_00fb,
-    6,
-    8,
-    1,
-    9,
-    2,
-    8,
-    // %8 = OpLabel; OpBranch %10; %9 = OpLabel; OpBranch %10
-    0x0002_00f8,
-    8,
-    0x0002_00f9,
-    10,
-    0x0002_00f8,
-    9,
-    0x0002_00f9,
-    10,
-    // %10 = OpLabel; %11 = OpPhi %5 %6 %8 %6 %9; OpReturn; OpFunctionEnd
-    0x0002_00f8,
-    10,
-    0x0007_00f5,
-    5,
-    11,
-    6,
-    8,
-    6,
-    9,
-    0x0001_00fd,
-    0x0001_0038,
-];
+/// A function that switches over a constant, with a line mark between the merge instruction and the terminator.
+const SWITCHING: &str = "
+; the header; OpCapability Shader; OpMemoryModel Logical GLSL450
+0x07230203 0x00010600 0 20 0 0x00020011 1 0x0003000e 0 1
+; OpEntryPoint GLCompute %1 main; OpExecutionMode %1 LocalSize 1 1 1
+0x0005000f 5 1 0x6e69616d 0 0x00060010 1 17 1 1 1
+; %3 = OpTypeVoid; %4 = OpTypeFunction %3; %5 = OpTypeInt 32 0; %6 = OpConstant %5 7
+0x00020013 3 0x00030021 4 3 0x00040015 5 32 0 0x0004002b 5 6 7
+; %1 = OpFunction %3 None %4
+0x00050036 3 1 0 4
+; %7 = OpLabel; OpSelectionMerge %10 None; OpNoLine; OpSwitch %6 %8 1 %9 2 %8
+0x000200f8 7 0x000300f7 10 0 0x0001013d 0x000700fb 6 8 1 9 2 8
+; %8 = OpLabel; OpBranch %10; %9 = OpLabel; OpBranch %10
+0x000200f8 8 0x000200f9 10 0x000200f8 9 0x000200f9 10
+; %10 = OpLabel; %11 = OpPhi %5 %6 %8 %6 %9; OpReturn; OpFunctionEnd
+0x000200f8 10 0x000700f5 5 11 6 8 6 9 0x000100fd 0x00010038
+";
 
 /// The module of the words after one of them was changed.
-fn changed(alloc: Global, place: usize, word: u32) -> Option<Flat> {
-    let mut words = SWITCHING;
+fn changed(alloc: Global, place: usize, word: u32) -> Result<Option<Flat>, Unread> {
+    let mut words = numbers(alloc, SWITCHING)?;
     if let Some(old) = words.get_mut(place) {
         *old = word;
     }
-    if words[0] != SWITCHING[0] {
-        return None;
-    }
-    decode(alloc, &words).ok()
+    Ok(module(alloc, words.as_slice()))
 }
 
 /// Whether the switch of %7 is refused, which has its own block for its merge block, and nothing else.
@@ -127,7 +62,7 @@ fn has_open_fault(alloc: Global, flat: &Flat) -> Result<bool, Fail> {
 #[test]
 fn blocks_are_looked_at(rt: HostRuntime) -> Result<(), Fail> {
     // the switch of %7 with %7 as its own merge block
-    let flat = changed(rt.alloc(), 42, 7);
+    let flat = changed(rt.alloc(), 42, 7)?;
     assert!(rt; flat.is_some());
     if let Some(flat) = &flat {
         assert!(rt; has_merge_fault(rt.alloc(), flat)?);
@@ -138,7 +73,7 @@ fn blocks_are_looked_at(rt: HostRuntime) -> Result<(), Fail> {
 #[test]
 fn an_open_block_is_looked_at(rt: HostRuntime) -> Result<(), Fail> {
     // %10 = OpLabel in the place of the first OpBranch %10
-    let flat = changed(rt.alloc(), 54, 0x0002_00f8);
+    let flat = changed(rt.alloc(), 54, 0x0002_00f8)?;
     assert!(rt; flat.is_some());
     if let Some(flat) = &flat {
         assert!(rt; has_open_fault(rt.alloc(), flat)?);

@@ -14,6 +14,8 @@ mod flow;
 #[cfg(test)]
 mod functions;
 #[cfg(test)]
+mod modules;
+#[cfg(test)]
 mod norm;
 #[cfg(test)]
 mod parse;

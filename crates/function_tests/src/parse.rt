@@ -2,7 +2,7 @@ ghost use Rattle.std.specs.Prelude.{◌≡◌, IfOk, IfSome, slice_get};
 ghost use Rattle.spv_blocks.specs.Cutting.{starts as starts_in};
 ghost use Rattle.spv_parse.specs.Functions.{IsLaidOut};
 
-use spv_base::{Fault, NoMemory};
+use spv_base::{Fault, MAGIC, NoMemory};
 use spv_blocks::{Function, Labels, starts};
 use spv_flow::has_own_labels;
 use spv_module::{Flat, decode};
@@ -11,216 +11,85 @@ use spv_tree::Body;
 use std::alloc::Global;
 use std::collections::BTreeSet;
 use std::test::Fail;
+use test_texts::{Table, Tells, Unread, first_wrong, words};
 
-// First words of instructions.
-const SELECTION: u32 = 0x0003_00f7;
-
-const LOOP: u32 = 0x0004_00f6;
-
-const LABEL: u32 = 0x0002_00f8;
-
-const BRANCH: u32 = 0x0002_00f9;
-
-const BRANCH_IF: u32 = 0x0004_00fa;
-/// OpSwitch with two cases.
-const SWITCH: u32 = 0x0007_00fb;
-/// OpPhi with one pair, and with two.
-const PHI_OF_ONE: u32 = 0x0005_00f5;
-
-const PHI: u32 = 0x0007_00f5;
-
-const RETURN: u32 = 0x0001_00fd;
-
-const FUNCTION_END: u32 = 0x0001_0038;
-
-/// The type of a condition, a condition, and a selector.
-const BOOL: u32 = 5;
-
-const CONDITION: u32 = 6;
-
-const SELECTOR: u32 = 16;
+/// What parsing a function answers, beside the first broken rule. First words of instructions: `switch` is OpSwitch with two
+/// cases, `phiofone` and `phi` OpPhi with one pair and with two. The type of a condition, a condition, and a selector.
+const NAMES: &str = "
+tree = 0
+deep = 901
+label = 0x000200f8
+return = 0x000100fd
+branch = 0x000200f9
+phiofone = 0x000500f5
+bool = 5
+condition = 6
+selection = 0x000300f7
+branchif = 0x000400fa
+phi = 0x000700f5
+switch = 0x000700fb
+selector = 16
+loop = 0x000400f6
+functionend = 0x00010038
+";
 
 /// What stands before the first label of the function.
-const FRONT: [u32; 44] = [
-    // the header; OpCapability Shader; OpMemoryModel Logical GLSL450
-    0x0723_0203,
-    0x0001_0600,
-    0,
-    1000,
-    0,
-    0x0002_0011,
-    1,
-    0x0003_000e,
-    0,
-    1,
-    // OpEntryPoint GLCompute %1 "main"; OpExecutionMode %1 LocalSize 1 1 1
-    0x0005_000f,
-    5,
-    1,
-    0x6e69_616d,
-    0,
-    0x0006_0010,
-    1,
-    17,
-    1,
-    1,
-    1,
-    // %3 = OpTypeVoid; %4 = OpTypeFunction %3; %5 = OpTypeBool; %6 = OpConstantTrue %5
-    0x0002_0013,
-    3,
-    0x0003_0021,
-    4,
-    3,
-    0x0002_0014,
-    BOOL,
-    0x0003_0029,
-    BOOL,
-    CONDITION,
-    // %15 = OpTypeInt 32 0; %16 = OpConstant %15 7
-    0x0004_0015,
-    15,
-    32,
-    0,
-    0x0004_002b,
-    15,
-    SELECTOR,
-    7,
-    // %1 = OpFunction %3 None %4
-    0x0005_0036,
-    3,
-    1,
-    0,
-    4,
-];
+const FRONT: &str = "
+; the header; OpCapability Shader; OpMemoryModel Logical GLSL450
+0x07230203 0x00010600 0 1000 0 0x00020011 1 0x0003000e 0 1
+; OpEntryPoint GLCompute %1 main; OpExecutionMode %1 LocalSize 1 1 1
+0x0005000f 5 1 0x6e69616d 0 0x00060010 1 17 1 1 1
+; %3 = OpTypeVoid; %4 = OpTypeFunction %3; %5 = OpTypeBool; %6 = OpConstantTrue %5
+0x00020013 3 0x00030021 4 3 0x00020014 5 0x00030029 5 6
+; %15 = OpTypeInt 32 0; %16 = OpConstant %15 7
+0x00040015 15 32 0 0x0004002b 15 16 7
+; %1 = OpFunction %3 None %4
+0x00050036 3 1 0 4
+";
 
-/// What parsing a function answers.
-#[derive(Clone, Copy, Debug, PartialEq, Eq)]
-enum Told {
-    /// The words are no module whose function may be parsed.
-    Nothing,
-    /// A tree whose outermost sequence has so many items, and which nests so deep.
-    Tree(usize, u32),
-    /// The first broken rule.
-    Broken(u16),
-    Deep,
-    NoMemory,
-}
+/// A module of one function, from its first label on.
+const FRAME: &str = "
+; the header; OpCapability Shader; OpMemoryModel Logical GLSL450
+0x07230203 0x00010600 0 1000 0 0x00020011 1 0x0003000e 0 1
+; OpEntryPoint GLCompute %1 main; OpExecutionMode %1 LocalSize 1 1 1
+0x0005000f 5 1 0x6e69616d 0 0x00060010 1 17 1 1 1
+; %3 = OpTypeVoid; %4 = OpTypeFunction %3; %5 = OpTypeBool; %6 = OpConstantTrue %5
+0x00020013 3 0x00030021 4 3 0x00020014 5 0x00030029 5 6
+; %15 = OpTypeInt 32 0; %16 = OpConstant %15 7
+0x00040015 15 32 0 0x0004002b 15 16 7
+; %1 = OpFunction %3 None %4
+0x00050036 3 1 0 4
+|
+functionend
+";
 
-/// A function, from its first label on, and what parsing it answers.
-type Case = (&'static [u32], Told);
-
-/// Functions of each kind of item, and what is refused.
-const CASES: [Case; 15] = [
-    // one block
-    (&[LABEL, 20, RETURN], Told::Tree(0, 0)),
-    // joined blocks: a copy for an OpPhi
-    (
-        &[
-            LABEL, 20, BRANCH, 21, LABEL, 21, PHI_OF_ONE, BOOL, 40, CONDITION, 20, BRANCH, 22,
-            LABEL, 22, RETURN,
-        ],
-        Told::Tree(1, 0),
-    ),
-    // a selection; its OpPhi names the parents in another order
-    (
-        &[
-            LABEL, 20, SELECTION, 23, 0, BRANCH_IF, CONDITION, 21, 22, LABEL, 21, BRANCH, 23,
-            LABEL, 22, BRANCH, 23, LABEL, 23, PHI, BOOL, 40, CONDITION, 22, CONDITION, 21, RETURN,
-        ],
-        Told::Tree(1, 1),
-    ),
-    // its blocks in another order
-    (
-        &[
-            LABEL, 20, SELECTION, 23, 0, BRANCH_IF, CONDITION, 21, 22, LABEL, 22, BRANCH, 23,
-            LABEL, 23, RETURN, LABEL, 21, BRANCH, 23,
-        ],
-        Told::Tree(1, 1),
-    ),
-    // a switch whose default is its merge block
-    (
-        &[
-            LABEL, 20, SELECTION, 23, 0, SWITCH, SELECTOR, 23, 1, 21, 2, 22, LABEL, 21, BRANCH, 23,
-            LABEL, 22, BRANCH, 23, LABEL, 23, RETURN,
-        ],
-        Told::Tree(1, 1),
-    ),
-    // a switch with two literals of one case
-    (
-        &[
-            LABEL, 20, SELECTION, 23, 0, SWITCH, SELECTOR, 23, 1, 21, 2, 21, LABEL, 21, BRANCH, 23,
-            LABEL, 23, RETURN,
-        ],
-        Told::Tree(1, 1),
-    ),
-    // a loop
-    (
-        &[
-            LABEL, 20, BRANCH, 21, LABEL, 21, LOOP, 24, 23, 0, BRANCH_IF, CONDITION, 22, 24, LABEL,
-            22, BRANCH, 23, LABEL, 23, BRANCH, 21, LABEL, 24, RETURN,
-        ],
-        Told::Tree(1, 1),
-    ),
-    // a loop whose header is the merge block of a selection
-    (
-        &[
-            LABEL, 20, SELECTION, 21, 0, BRANCH_IF, CONDITION, 19, 21, LABEL, 19, BRANCH, 21,
-            LABEL, 21, LOOP, 24, 23, 0, BRANCH, 22, LABEL, 22, BRANCH, 23, LABEL, 23, BRANCH, 21,
-            LABEL, 24, RETURN,
-        ],
-        Told::Tree(2, 1),
-    ),
-    // a loop whose body leaves it or goes on, without a merge instruction
-    (
-        &[
-            LABEL, 20, BRANCH, 21, LABEL, 21, LOOP, 24, 23, 0, BRANCH, 22, LABEL, 22, BRANCH_IF,
-            CONDITION, 24, 25, LABEL, 25, BRANCH_IF, CONDITION, 27, 23, LABEL, 27, BRANCH, 23,
-            LABEL, 23, BRANCH, 21, LABEL, 24, RETURN,
-        ],
-        Told::Tree(1, 1),
-    ),
-    // a loop in a loop
-    (
-        &[
-            LABEL, 20, BRANCH, 21, LABEL, 21, LOOP, 24, 23, 0, BRANCH, 22, LABEL, 22, LOOP, 26, 25,
-            0, BRANCH_IF, CONDITION, 27, 26, LABEL, 27, BRANCH, 25, LABEL, 25, BRANCH_IF,
-            CONDITION, 26, 22, LABEL, 26, BRANCH, 23, LABEL, 23, BRANCH, 21, LABEL, 24, RETURN,
-        ],
-        Told::Tree(1, 2),
-    ),
-    // a selection whose arm is a loop
-    (
-        &[
-            LABEL, 20, SELECTION, 30, 0, BRANCH_IF, CONDITION, 21, 30, LABEL, 21, LOOP, 24, 23, 0,
-            BRANCH_IF, CONDITION, 22, 24, LABEL, 22, BRANCH, 23, LABEL, 23, BRANCH, 21, LABEL, 24,
-            BRANCH, 30, LABEL, 30, RETURN,
-        ],
-        Told::Tree(1, 2),
-    ),
-    // a conditional exit that goes on at a loop
-    (
-        &[
-            LABEL, 20, SELECTION, 30, 0, BRANCH_IF, CONDITION, 19, 30, LABEL, 19, BRANCH_IF,
-            CONDITION, 30, 21, LABEL, 21, LOOP, 24, 23, 0, BRANCH_IF, CONDITION, 22, 24, LABEL, 22,
-            BRANCH, 23, LABEL, 23, BRANCH, 21, LABEL, 24, BRANCH, 30, LABEL, 30, RETURN,
-        ],
-        Told::Tree(1, 2),
-    ),
-    // 407 BareBranch: a conditional branch that leaves nothing
-    (
-        &[
-            LABEL, 20, BRANCH_IF, CONDITION, 21, 22, LABEL, 21, RETURN, LABEL, 22, RETURN,
-        ],
-        Told::Broken(407),
-    ),
-    // 406 BadPhi: in the first block
-    (
-        &[LABEL, 20, PHI_OF_ONE, BOOL, 40, CONDITION, 20, RETURN],
-        Told::Broken(406),
-    ),
-    // two blocks with one label
-    (&[LABEL, 20, RETURN, LABEL, 20, RETURN], Told::Nothing),
-];
+/// Functions of each kind of item, and what is refused. Behind the `=` stand `tree` with the number of items of the
+/// outermost sequence and how deep the tree nests; or the first broken rule; or nothing, where the function may not be
+/// parsed.
+const CASES: &str = "
+label 20 return = tree 0 0 ; one block
+label 20 branch 21 label 21 phiofone bool 40 condition 20 branch 22 label 22 return = tree 1 0 ; joined blocks: a copy for an OpPhi
+; a selection; its OpPhi names the parents in another order
+label 20 selection 23 0 branchif condition 21 22 label 21 branch 23 label 22 branch 23 label 23 phi bool 40 condition 22 condition 21 return = tree 1 1
+label 20 selection 23 0 branchif condition 21 22 label 22 branch 23 label 23 return label 21 branch 23 = tree 1 1 ; its blocks in another order
+; a switch whose default is its merge block
+label 20 selection 23 0 switch selector 23 1 21 2 22 label 21 branch 23 label 22 branch 23 label 23 return = tree 1 1
+label 20 selection 23 0 switch selector 23 1 21 2 21 label 21 branch 23 label 23 return = tree 1 1 ; a switch with two literals of one case
+label 20 branch 21 label 21 loop 24 23 0 branchif condition 22 24 label 22 branch 23 label 23 branch 21 label 24 return = tree 1 1 ; a loop
+; a loop whose header is the merge block of a selection
+label 20 selection 21 0 branchif condition 19 21 label 19 branch 21 label 21 loop 24 23 0 branch 22 label 22 branch 23 label 23 branch 21 label 24 return = tree 2 1
+; a loop whose body leaves it or goes on, without a merge instruction
+label 20 branch 21 label 21 loop 24 23 0 branch 22 label 22 branchif condition 24 25 label 25 branchif condition 27 23 label 27 branch 23 label 23 branch 21 label 24 return = tree 1 1
+; a loop in a loop
+label 20 branch 21 label 21 loop 24 23 0 branch 22 label 22 loop 26 25 0 branchif condition 27 26 label 27 branch 25 label 25 branchif condition 26 22 label 26 branch 23 label 23 branch 21 label 24 return = tree 1 2
+; a selection whose arm is a loop
+label 20 selection 30 0 branchif condition 21 30 label 21 loop 24 23 0 branchif condition 22 24 label 22 branch 23 label 23 branch 21 label 24 branch 30 label 30 return = tree 1 2
+; a conditional exit that goes on at a loop
+label 20 selection 30 0 branchif condition 19 30 label 19 branchif condition 30 21 label 21 loop 24 23 0 branchif condition 22 24 label 22 branch 23 label 23 branch 21 label 24 branch 30 label 30 return = tree 1 2
+label 20 branchif condition 21 22 label 21 return label 22 return = 407 ; 407 BareBranch: a conditional branch that leaves nothing
+label 20 phiofone bool 40 condition 20 return = 406 ; 406 BadPhi: in the first block
+label 20 return label 20 return = ; two blocks with one label
+";
 
 /// The label of the k-th header of nested selections, counted from 0.
 fn header(k: u16) -> u32 {
@@ -236,51 +105,49 @@ fn merge(k: u16) -> u32 {
 fn push_headers(words: &mut Vec<u32>, depth: u16) -> Result<(), NoMemory> {
     'headers: for k in 0..depth {
         words.extend_from_slice(&[
-            LABEL,
+            0x0002_00f8,
             header(k),
-            SELECTION,
+            0x0003_00f7,
             merge(k),
             0,
-            BRANCH_IF,
-            CONDITION,
+            0x0004_00fa,
+            6,
             header(k + 1),
             merge(k),
         ])?;
     }
-    words.extend_from_slice(&[LABEL, header(depth)])?;
+    words.extend_from_slice(&[0x0002_00f8, header(depth)])?;
     Ok(())
 }
 
 /// Their merge blocks, the innermost first.
 fn push_merges(words: &mut Vec<u32>, depth: u16) -> Result<(), NoMemory> {
     'merges: for k in (0..depth).rev() {
-        words.extend_from_slice(&[BRANCH, merge(k), LABEL, merge(k)])?;
+        words.extend_from_slice(&[0x0002_00f9, merge(k), 0x0002_00f8, merge(k)])?;
     }
-    words.push(RETURN)?;
+    words.push(0x0001_00fd)?;
     Ok(())
 }
 
-/// A function, from its first label on, of so many nested selections.
-fn nested(alloc: Global, depth: u16) -> Result<Vec<u32>, NoMemory> {
-    let mut words = Vec::new(alloc);
-    push_headers(&mut words, depth)?;
-    push_merges(&mut words, depth)?;
-    Ok(words)
+/// The words of a module of one function, of so many nested selections.
+fn nested(alloc: Global, depth: u16) -> Result<Vec<u32>, Fail> {
+    let mut insts = words(alloc, "", FRONT)?;
+    push_headers(&mut insts, depth)?;
+    push_merges(&mut insts, depth)?;
+    insts.push(0x0001_0038)?;
+    Ok(insts)
 }
 
-/// A module of one function with these instructions.
-fn module(alloc: Global, insts: &[u32]) -> Result<Option<Flat>, NoMemory>
+/// A module of these words, if they spell one.
+fn module(alloc: Global, words: &[u32]) -> Result<Option<Flat>, NoMemory>
     ensures { IfOk result (λ flat. IfSome flat (λ code. IsLaidOut code.insts)) }
 {
-    let mut words = Vec::new(alloc);
-    words.extend_from_slice(&FRONT)?;
-    words.extend_from_slice(insts)?;
-    words.push(FUNCTION_END)?;
-    if words.len() > 10_000 {
+    if words.len() < 5 || words.len() > 10_000 || words[0] != MAGIC {
         return Ok(None);
     }
-    match decode(alloc, &words) {
+    match decode(alloc, words) {
         Ok(flat) => Ok(Some(flat)),
+        Err(Fault::NoMemory) => Err(NoMemory),
         Err(_) => Ok(None),
     }
 }
@@ -293,59 +160,77 @@ fn first_function(alloc: Global, flat: &Flat) -> Result<Option<u32>, NoMemory>
     Ok(starts.get(0).copied())
 }
 
-fn tell(parsed: Result<Body, Fault>) -> Told {
+/// What parsing answers; none where memory is wanting.
+fn answer(alloc: Global, parsed: Result<Body, Fault>) -> Result<Vec<u32>, NoMemory> {
+    let mut told = Vec::new(alloc);
     match parsed {
-        Ok(body) => Told::Tree(body.sequence.items.len(), body.depth()),
-        Err(Fault::Refused(refusal)) => Told::Broken(refusal.rule),
-        Err(Fault::Nesting) => Told::Deep,
-        Err(Fault::NoMemory) => Told::NoMemory,
+        Ok(body) => {
+            told.push(0)?;
+            told.push(body.sequence.items.len().min(1000) as u32)?;
+            told.push(body.depth())?;
+        }
+        Err(Fault::Refused(refusal)) => told.push(u32::from(refusal.rule))?,
+        Err(Fault::Nesting) => told.push(901)?,
+        Err(Fault::NoMemory) => return Err(NoMemory),
     }
+    Ok(told)
 }
 
-/// What parsing the one function of a module answers.
-fn parse(alloc: Global, insts: &[u32]) -> Result<Told, NoMemory> {
-    let Some(flat) = module(alloc, insts)? else {
-        return Ok(Told::Nothing);
+/// What parsing the one function of a module answers; nothing where it may not be parsed.
+fn parse(alloc: Global, words: &[u32]) -> Result<Vec<u32>, NoMemory> {
+    let Some(flat) = module(alloc, words)? else {
+        return Ok(Vec::new(alloc));
     };
     if flat.functions() == 0 {
-        return Ok(Told::Nothing);
+        return Ok(Vec::new(alloc));
     }
     let Some(first) = first_function(alloc, &flat)? else {
-        return Ok(Told::Nothing);
+        return Ok(Vec::new(alloc));
     };
     let function = Function::at(alloc, &flat, first)?;
     let labels = Labels::of(alloc, &function)?;
     if !has_own_labels(&function, &labels) {
-        return Ok(Told::Nothing);
+        return Ok(Vec::new(alloc));
     }
     flat.insts().each_is_instruction();
     let pointers = BTreeSet::new(alloc);
-    Ok(tell(parse_function(alloc, &flat, &pointers, first)))
+    answer(alloc, parse_function(alloc, &flat, &pointers, first))
 }
 
-/// Whether parsing a function answers this.
-fn is_told(alloc: Global, insts: &[u32], wanted: Told) -> Result<bool, NoMemory> {
-    Ok(parse(alloc, insts)? == wanted)
+/// Parsing.
+struct Parsing;
+
+impl Tells for Parsing {
+    fn tell(&self, alloc: Global, words: &[u32]) -> Result<Vec<u32>, Unread> {
+        match parse(alloc, words) {
+            Ok(told) => Ok(told),
+            Err(_) => Err(Unread::NoMemory),
+        }
+    }
 }
 
 #[test]
 fn functions_are_parsed(rt: HostRuntime) -> Result<(), Fail> {
-    'cases: for case in CASES.as_slice() {
-        let wanted = case.1;
-        assert!(rt; is_told(rt.alloc(), case.0, wanted)?, "{wanted:?}");
-    }
+    let table = Table {
+        names: NAMES,
+        frame: FRAME,
+        cases: CASES,
+    };
+    let wrong = first_wrong(rt.alloc(), &Parsing, &table)?;
+    assert!(rt; wrong.is_none(), "{wrong:?}");
     Ok(())
 }
 
 /// Whether parsing so many nested selections answers this.
-fn nesting_is_told(alloc: Global, depth: u16, wanted: Told) -> Result<bool, NoMemory> {
-    let insts = nested(alloc, depth)?;
-    is_told(alloc, &insts, wanted)
+fn nesting_is_told(alloc: Global, depth: u16, wanted: &[u32]) -> Result<bool, Fail> {
+    let words = nested(alloc, depth)?;
+    let told = parse(alloc, words.as_slice())?;
+    Ok(told.as_slice() == wanted)
 }
 
 #[test]
 fn nesting_has_a_limit(rt: HostRuntime) -> Result<(), Fail> {
-    assert!(rt; nesting_is_told(rt.alloc(), 255, Told::Tree(1, 255))?);
-    assert!(rt; nesting_is_told(rt.alloc(), 256, Told::Deep)?);
+    assert!(rt; nesting_is_told(rt.alloc(), 255, &[0, 1, 255])?);
+    assert!(rt; nesting_is_told(rt.alloc(), 256, &[901])?);
     Ok(())
 }

@@ -60,7 +60,7 @@ fn results_scopes_calls_and_names_are_looked_at(rt: HostRuntime) -> Result<(), F
 /// Whether the shader with so many blocks that lead to one, and the switch that does, ends so.
 fn exits_end(alloc: Global, blocks: u32, rule: u32, at: u32) -> Result<bool, Fail> {
     let edits = exits(alloc, blocks)?;
-    edits_are_told(alloc, edits.as_slice(), rule, at)
+    edits_are_told(alloc, edits.as_slice(), None, rule, at)
 }
 
 #[test]

@@ -1,43 +1,51 @@
 ghost use Rattle.std.specs.Prelude.{◌≤◌, length};
 
-use crate::tests::{DOUBLING, encoded, ends, with_input};
+use crate::tests::{doubling, encoded, ends, with_input};
 use std::alloc::Global;
 use std::test::Fail;
 use test_texts::{case, numbers};
 
 // Each line of cases is edits of the shader at rising places: the place, how many words go there, how many come, and
-// these; behind the `=` the rule and the place of the refusal, or twice 0 where the run is done. The bound is 0x400, so ids
-// from 22 on are free. Word 54 is behind the decorations, 105 behind the variables, and 141 the end.
+// these; behind the `=` the rule and the place of the refusal, or twice 0 where the run is done, and how many bytes of the
+// shader are the input, where it is not whole. The bound is 0x400, so ids from 22 on are free. Word 54 is behind the decorations, 105 behind the variables, and 141 the end.
 
-/// The name of a rule.
+/// The number and the name of a rule.
 fn rule_name(rule: u32) -> &'static str {
     match rule {
-        301 => "IdTwice",
-        302 => "IdUnknown",
-        303 => "BadType",
-        304 => "BadConstant",
-        305 => "BadSpecOp",
-        306 => "BadDecoration",
-        307 => "BadLayout",
-        308 => "BadGlobal",
-        309 => "TypeDepth",
-        401 => "NoTerminator",
-        402 => "BadTarget",
-        406 => "BadPhi",
-        501 => "OperandType",
-        502 => "ResultType",
-        503 => "NotAvailable",
-        504 => "StorageUse",
-        505 => "ScopeOrSemantics",
-        506 => "CallShape",
-        507 => "ReturnType",
-        601 => "CallCycle",
-        602 => "Interface",
-        603 => "Binding",
-        604 => "EntryName",
-        605 => "LocalSize",
-        606 => "EntryFunction",
-        607 => "ManyExits",
+        1 => "001 ShortInput",
+        2 => "002 OddLength",
+        3 => "003 NotSpirv",
+        105 => "105 PastEnd",
+        106 => "106 UnknownOpcode",
+        201 => "201 LayoutOrder",
+        202 => "202 MissingCapability",
+        205 => "205 FunctionShape",
+        301 => "301 IdTwice",
+        302 => "302 IdUnknown",
+        303 => "303 BadType",
+        304 => "304 BadConstant",
+        305 => "305 BadSpecOp",
+        306 => "306 BadDecoration",
+        307 => "307 BadLayout",
+        308 => "308 BadGlobal",
+        309 => "309 TypeDepth",
+        401 => "401 NoTerminator",
+        402 => "402 BadTarget",
+        406 => "406 BadPhi",
+        501 => "501 OperandType",
+        502 => "502 ResultType",
+        503 => "503 NotAvailable",
+        504 => "504 StorageUse",
+        505 => "505 ScopeOrSemantics",
+        506 => "506 CallShape",
+        507 => "507 ReturnType",
+        601 => "601 CallCycle",
+        602 => "602 Interface",
+        603 => "603 Binding",
+        604 => "604 EntryName",
+        605 => "605 LocalSize",
+        606 => "606 EntryFunction",
+        607 => "607 ManyExits",
         _ => "unknown",
     }
 }
@@ -51,8 +59,7 @@ fn split(words: &[u32], count: u32) -> (&[u32], &[u32])
 
 /// The shader with edits.
 pub fn edited(alloc: Global, edits: &[u32]) -> Result<Vec<u32>, Fail> {
-    let mut shader = DOUBLING;
-    shader[3] = 0x400;
+    let shader = doubling(alloc, "bound = 0x400")?;
     let mut words = Vec::new(alloc);
     let mut rest = shader.as_slice();
     let mut passed = 0;
@@ -70,36 +77,40 @@ pub fn edited(alloc: Global, edits: &[u32]) -> Result<Vec<u32>, Fail> {
     Ok(words)
 }
 
-/// Whether the words end so: refused by this rule at this place and with no output opened, or done where it is 0.
-pub fn is_told(alloc: Global, words: &[u32], rule: u32, at: u32) -> Result<bool, Fail> {
-    let input = encoded(alloc, words, false)?;
-    let mut memory = with_input(alloc, 1000, input.as_slice())?;
+/// Whether an input ends so: refused by this rule at this place and with no output opened, or done where it is 0.
+fn is_told(alloc: Global, input: &[u8], rule: u32, at: u32) -> Result<bool, Fail> {
+    let mut memory = with_input(alloc, 1000, input)?;
     if rule == 0 {
         return Ok(ends(alloc, &mut memory, 0, "")? && memory.opened());
     }
-    let message = format!(in alloc; "error: {rule} {} at word {at}\n", rule_name(rule))?;
+    let message = format!(in alloc; "error: {} at word {at}\n", rule_name(rule))?;
     Ok(ends(alloc, &mut memory, 1, message.as_str())? && !memory.opened())
 }
 
-/// The same of the shader with edits.
-pub fn edits_are_told(alloc: Global, edits: &[u32], rule: u32, at: u32) -> Result<bool, Fail> {
+/// The same of the shader with edits, or its first bytes.
+pub fn edits_are_told(
+    alloc: Global,
+    edits: &[u32],
+    bytes: Option<u32>,
+    rule: u32,
+    at: u32,
+) -> Result<bool, Fail> {
     let words = edited(alloc, edits)?;
-    is_told(alloc, words.as_slice(), rule, at)
-}
-
-/// The same, where the rule and the place are two words.
-fn are_told(alloc: Global, edits: &[u32], wanted: &[u32]) -> Result<bool, Fail> {
-    let [rule, at] = wanted else {
-        return Ok(false);
-    };
-    edits_are_told(alloc, edits, *rule, *at)
+    let mut input = encoded(alloc, words.as_slice(), false)?;
+    if let Some(bytes) = bytes {
+        input.truncate(bytes as usize);
+    }
+    is_told(alloc, input.as_slice(), rule, at)
 }
 
 /// Whether a case ends as it says.
 fn is_right(alloc: Global, edits: &str, wanted: &str) -> Result<bool, Fail> {
     let edits = numbers(alloc, edits)?;
     let wanted = numbers(alloc, wanted)?;
-    are_told(alloc, edits.as_slice(), wanted.as_slice())
+    let [rule, at, bytes @ ..] = wanted.as_slice() else {
+        return Ok(false);
+    };
+    edits_are_told(alloc, edits.as_slice(), bytes.first().copied(), *rule, *at)
 }
 
 /// The first line of cases that does not end as it says.
@@ -127,7 +138,8 @@ fn nested(alloc: Global, structs: u32) -> Result<Vec<u32>, Fail> {
     Ok(edits)
 }
 
-const IDS_AND_TYPES: &str = "
+const RULES: &str = "
+; ---- ids and types
 60 1 1 9 = 301 63 ; a type with the id of another
 111 1 1 3 = 301 110 ; a label with the id of a variable
 133 1 1 20 = 301 131 ; a result with the id of another
@@ -171,16 +183,7 @@ const IDS_AND_TYPES: &str = "
 105 0 4 0x040021 22 6 6 = 303 105 ; a parameter of void
 105 0 4 0x040021 22 6 13 = 303 105 ; a parameter that points to an input
 105 0 8 0x040020 22 7 8 0x040021 23 6 22 = 0 0 ; a parameter that points to a variable of a function
-";
-
-#[test]
-fn ids_and_types_are_looked_at(rt: HostRuntime) -> Result<(), Fail> {
-    let wrong = first_wrong(rt.alloc(), IDS_AND_TYPES)?;
-    assert!(rt; wrong.is_none(), "{wrong:?}");
-    Ok(())
-}
-
-const CONSTANTS: &str = "
+; ---- constants
 90 1 1 9 = 304 89 ; a number as a vector
 105 0 3 0x030029 8 22 = 304 105 ; true as an integer
 105 0 3 0x030030 8 22 = 304 105 ; a specialised true as an integer
@@ -233,16 +236,7 @@ const CONSTANTS: &str = "
 105 0 12 0x03002e 9 22 0x090034 9 23 79 22 22 0 5 0xffffffff = 0 0 ; a shuffle
 105 0 12 0x03002e 9 22 0x090034 9 23 79 22 22 0 6 1 = 305 108 ; a component past both vectors
 105 0 11 0x03002e 9 22 0x080034 9 23 79 22 22 0 5 = 305 108 ; too few components
-";
-
-#[test]
-fn constants_are_looked_at(rt: HostRuntime) -> Result<(), Fail> {
-    let wrong = first_wrong(rt.alloc(), CONSTANTS)?;
-    assert!(rt; wrong.is_none(), "{wrong:?}");
-    Ok(())
-}
-
-const DECORATIONS: &str = "
+; ---- decorations and global variables
 31 1 1 4 = 306 30 ; BuiltIn of a struct
 54 0 3 0x030047 3 2 = 306 54 ; Block of a variable
 54 0 4 0x040047 2 34 0 = 306 54 ; DescriptorSet of an input
@@ -305,16 +299,7 @@ const DECORATIONS: &str = "
 105 0 9 0x040020 22 6 8 0x05003b 22 23 6 14 = 0 0 ; an initial value of a private variable
 105 0 12 0x040020 22 6 8 0x03002e 9 23 0x05003b 22 24 6 23 = 308 112 ; an initial value of another type
 105 0 9 0x040020 22 6 8 0x05003b 22 23 6 2 = 308 109 ; an initial value that is a variable
-";
-
-#[test]
-fn decorations_and_global_variables_are_looked_at(rt: HostRuntime) -> Result<(), Fail> {
-    let wrong = first_wrong(rt.alloc(), DECORATIONS)?;
-    assert!(rt; wrong.is_none(), "{wrong:?}");
-    Ok(())
-}
-
-const FUNCTIONS: &str = "
+; ---- functions
 139 1 0 = 401 139 ; no terminator
 140 0 3 0x0200f8 22 0x0100fd = 402 140 ; a second label, which nothing branches to
 139 1 2 0x0200f9 16 = 402 139 ; a branch to the first block
@@ -329,27 +314,27 @@ const FUNCTIONS: &str = "
 139 1 1 0x0100ff = 0 0 ; OpUnreachable
 139 0 1 0x01013d = 0 0 ; OpNoLine
 141 0 9 0x050036 6 22 0 7 0x0200f8 23 0x0100fd 0x010038 = 0 0 ; a second function
-";
-
-#[test]
-fn functions_are_looked_at(rt: HostRuntime) -> Result<(), Fail> {
-    let wrong = first_wrong(rt.alloc(), FUNCTIONS)?;
-    assert!(rt; wrong.is_none(), "{wrong:?}");
-    Ok(())
-}
-
-const ENTRY_POINTS: &str = "
+; ---- entry points and bindings, which are looked at last
 10 7 6 0x06000f 5 1 0x6e69616d 0 2 = 602 10 ; a buffer that the entry point does not list
 10 7 6 0x06000f 5 1 0x6e69616d 0 2 139 1 2 0x0200fe 21 = 507 138 ; the same, and OpReturnValue
 38 4 0 = 603 97 ; no binding
 20 1 1 0 = 605 10 ; a size of 0
 105 36 4 0x04002b 8 1 0 = 606 10 ; no function
 = 0 0 ; the shader
+; ---- bytes, instructions and layout
+= 1 0 0 ; nothing
+= 2 0 21 ; a word and an octet
+0 5 5 0 0 0 0 0 = 3 0 20 ; zeros
+= 202 5 20 ; a header
+= 105 136 552 ; an instruction cut in two
+= 205 140 560 ; a function without its end
+5 5 5 0x03000e 0 1 0x020011 1 = 201 8 ; OpMemoryModel before OpCapability
+5 5 5 0x03000e 0 1 0x020011 1 131 1 1 0x05ffff = 106 131 ; the same, and an instruction of no such opcode
 ";
 
 #[test]
-fn entry_points_and_bindings_are_looked_at_last(rt: HostRuntime) -> Result<(), Fail> {
-    let wrong = first_wrong(rt.alloc(), ENTRY_POINTS)?;
+fn rules_are_told(rt: HostRuntime) -> Result<(), Fail> {
+    let wrong = first_wrong(rt.alloc(), RULES)?;
     assert!(rt; wrong.is_none(), "{wrong:?}");
     Ok(())
 }
@@ -439,7 +424,7 @@ fn constructs_nest_255_deep(rt: HostRuntime) -> Result<(), Fail> {
 /// Whether the shader with so many structs in each other ends so.
 fn structs_end(alloc: Global, structs: u32, rule: u32, at: u32) -> Result<bool, Fail> {
     let edits = nested(alloc, structs)?;
-    edits_are_told(alloc, edits.as_slice(), rule, at)
+    edits_are_told(alloc, edits.as_slice(), None, rule, at)
 }
 
 #[test]

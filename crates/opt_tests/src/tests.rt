@@ -3,35 +3,35 @@ use opt_top::opt;
 use std::alloc::Global;
 use std::rc::RcStr;
 use std::test::Fail;
+use test_texts::{Unread, framed};
 
-// A compute shader in which each invocation doubles one word of a buffer. Words 23 to 29 are its OpSource and its
-// OpName, words 5 to 9 its OpCapability and its OpMemoryModel, and word 131 begins its OpIMul.
-pub const DOUBLING: [u32; 141] = [
-    0x07230203, 0x00010600, 0x00000000, 0x00000016, 0x00000000, 0x00020011, 0x00000001, 0x0003000e,
-    0x00000000, 0x00000001, 0x0007000f, 0x00000005, 0x00000001, 0x6e69616d, 0x00000000, 0x00000002,
-    0x00000003, 0x00060010, 0x00000001, 0x00000011, 0x00000040, 0x00000001, 0x00000001, 0x00030003,
-    0x00000002, 0x000001c2, 0x00040005, 0x00000001, 0x6e69616d, 0x00000000, 0x00040047, 0x00000002,
-    0x0000000b, 0x0000001c, 0x00040047, 0x00000003, 0x00000022, 0x00000000, 0x00040047, 0x00000003,
-    0x00000021, 0x00000000, 0x00030047, 0x00000004, 0x00000002, 0x00050048, 0x00000004, 0x00000000,
-    0x00000023, 0x00000000, 0x00040047, 0x00000005, 0x00000006, 0x00000004, 0x00020013, 0x00000006,
-    0x00030021, 0x00000007, 0x00000006, 0x00040015, 0x00000008, 0x00000020, 0x00000000, 0x00040017,
-    0x00000009, 0x00000008, 0x00000003, 0x00040020, 0x0000000a, 0x00000001, 0x00000009, 0x0003001d,
-    0x00000005, 0x00000008, 0x0003001e, 0x00000004, 0x00000005, 0x00040020, 0x0000000b, 0x0000000c,
-    0x00000004, 0x00040020, 0x0000000c, 0x0000000c, 0x00000008, 0x00040020, 0x0000000d, 0x00000001,
-    0x00000008, 0x0004002b, 0x00000008, 0x0000000e, 0x00000000, 0x0004002b, 0x00000008, 0x0000000f,
-    0x00000002, 0x0004003b, 0x0000000a, 0x00000002, 0x00000001, 0x0004003b, 0x0000000b, 0x00000003,
-    0x0000000c, 0x00050036, 0x00000006, 0x00000001, 0x00000000, 0x00000007, 0x000200f8, 0x00000010,
-    0x00050041, 0x0000000d, 0x00000011, 0x00000002, 0x0000000e, 0x0004003d, 0x00000008, 0x00000012,
-    0x00000011, 0x00060041, 0x0000000c, 0x00000013, 0x00000003, 0x0000000e, 0x00000012, 0x0004003d,
-    0x00000008, 0x00000014, 0x00000013, 0x00050084, 0x00000008, 0x00000015, 0x00000014, 0x0000000f,
-    0x0003003e, 0x00000013, 0x00000015, 0x000100fd, 0x00010038,
-];
+/// A compute shader in which each invocation doubles one word of a buffer, with its bound to be told and without its
+/// OpSource and its OpName, which stand at 23. Words 5 to 9 are its OpCapability and its OpMemoryModel.
+const DOUBLING: &str = "
+0x07230203 0x00010600 0 bound 0 0x00020011 1 0x0003000e 0 1 0x0007000f 5 1 0x6e69616d 0 2 3
+0x00060010 1 17 64 1 1
+|
+0x00040047 2 11 28 0x00040047 3 34 0 0x00040047 3 33 0 0x00030047 4 2 0x00050048 4 0 35 0
+0x00040047 5 6 4 0x00020013 6 0x00030021 7 6 0x00040015 8 32 0 0x00040017 9 8 3 0x00040020 10 1 9
+0x0003001d 5 8 0x0003001e 4 5 0x00040020 11 12 4 0x00040020 12 12 8 0x00040020 13 1 8
+0x0004002b 8 14 0 0x0004002b 8 15 2 0x0004003b 10 2 1 0x0004003b 11 3 12 0x00050036 6 1 0 7
+0x000200f8 16 0x00050041 13 17 2 14 0x0004003d 8 18 17 0x00060041 12 19 3 14 18 0x0004003d 8 20 19
+0x00050084 8 21 20 15 0x0003003e 19 21 0x000100fd 0x00010038
+";
 
-// The most bytes of an input.
+/// The OpSource and the OpName of the shader. With them word 131 begins its OpIMul.
+const SOURCE_AND_NAME: &str = "0x00030003 2 450 0x00040005 1 0x6e69616d 0";
+
+/// The most bytes of an input.
 const MOST_BYTES: usize = 4_194_304;
 
+/// The words of the shader, under the bound that a text tells.
+pub(crate) fn doubling(alloc: Global, bound: &str) -> Result<Vec<u32>, Unread> {
+    framed(alloc, bound, DOUBLING, SOURCE_AND_NAME)
+}
+
 /// The octets of words, the greatest first where `big`, else the least.
-pub fn encoded(alloc: Global, words: &[u32], big: bool) -> Result<Vec<u8>, Fail> {
+pub(crate) fn encoded(alloc: Global, words: &[u32], big: bool) -> Result<Vec<u8>, Fail> {
     let mut bytes = Vec::new(alloc);
     for word in words {
         let octets = if big {
@@ -44,43 +44,42 @@ pub fn encoded(alloc: Global, words: &[u32], big: bool) -> Result<Vec<u8>, Fail>
     Ok(bytes)
 }
 
-/// The words of a command.
-fn command(alloc: Global, words: &[&str]) -> Result<Vec<RcStr>, Fail> {
+/// The words of a command, which a text splits by blanks.
+fn command(alloc: Global, words: &str) -> Result<Vec<RcStr>, Fail> {
     let mut texts = Vec::new(alloc);
-    for word in words {
+    for word in words.split_ascii_whitespace() {
         texts.push(RcStr::from_str(alloc, word)?)?;
     }
     Ok(texts)
 }
 
 /// Strips the file `in` of a memory to its output, and says whether the run ends with this status and message.
-pub fn ends(alloc: Global, memory: &mut Memory, number: u8, message: &str) -> Result<bool, Fail> {
-    let words = command(alloc, &["--strip-debug", "in", "-o", "out"])?;
+pub(crate) fn ends(
+    alloc: Global,
+    memory: &mut Memory,
+    number: u8,
+    message: &str,
+) -> Result<bool, Fail> {
+    let words = command(alloc, "--strip-debug in -o out")?;
     let status = opt(alloc, words.as_slice(), memory);
     Ok(status.number() == number && memory.told() == message.as_bytes())
 }
 
 /// A memory that holds one file under the name `in`.
-pub fn with_input(alloc: Global, chunk: u32, bytes: &[u8]) -> Result<Memory, Fail> {
+pub(crate) fn with_input(alloc: Global, chunk: u32, bytes: &[u8]) -> Result<Memory, Fail> {
     let mut memory = Memory::new(alloc, chunk.max(1));
     memory.add("in", bytes)?;
     Ok(memory)
 }
 
-/// The bytes of the shader without its OpSource and its OpName.
-fn stripped(alloc: Global) -> Result<Vec<u8>, Fail> {
-    let mut bytes = encoded(alloc, &DOUBLING[..23], false)?;
-    let rest = encoded(alloc, &DOUBLING[30..], false)?;
-    bytes.extend_from_slice(rest.as_slice())?;
-    Ok(bytes)
-}
-
 /// Whether the shader is stripped, where its bytes are in this order and each call moves at most so many of them.
 fn is_stripped(alloc: Global, big: bool, chunk: u32) -> Result<bool, Fail> {
-    let shader = encoded(alloc, &DOUBLING, big)?;
+    let shader = doubling(alloc, "bound = 22")?;
+    let shader = encoded(alloc, shader.as_slice(), big)?;
     let mut memory = with_input(alloc, chunk, shader.as_slice())?;
     let is_done = ends(alloc, &mut memory, 0, "")?;
-    let output = stripped(alloc)?;
+    let output = framed(alloc, "bound = 22", DOUBLING, "")?;
+    let output = encoded(alloc, output.as_slice(), false)?;
     Ok(is_done && memory.opened() && memory.written() == output.as_slice() && output.len() == 536)
 }
 
@@ -92,37 +91,10 @@ fn ends_where_fails(
     number: u8,
     message: &str,
 ) -> Result<bool, Fail> {
-    let shader = encoded(alloc, &DOUBLING, false)?;
+    let shader = doubling(alloc, "bound = 22")?;
+    let shader = encoded(alloc, shader.as_slice(), false)?;
     let mut memory = with_input(alloc, 100, shader.as_slice())?;
     memory.fail(kind, nth)?;
-    ends(alloc, &mut memory, number, message)
-}
-
-/// Whether the first bytes of words end with this message, with no output opened.
-fn is_refused(alloc: Global, words: &[u32], bytes: usize, message: &str) -> Result<bool, Fail> {
-    let mut input = encoded(alloc, words, false)?;
-    input.truncate(bytes);
-    let mut memory = with_input(alloc, 100, input.as_slice())?;
-    let told = ends(alloc, &mut memory, 1, message)?;
-    Ok(told && input.len() == bytes && !memory.opened())
-}
-
-/// Whether these words of a command are no job, and nothing is asked.
-fn is_no_job(alloc: Global, words: &[&str]) -> Result<bool, Fail> {
-    let mut memory = with_input(alloc, 100, b"")?;
-    let words = command(alloc, words)?;
-    let status = opt(alloc, words.as_slice(), &mut memory);
-    Ok(
-        status.number() == 2
-            && memory.told() == b"error: usage: NotYet\n".as_slice()
-            && memory.asked().is_empty(),
-    )
-}
-
-/// Whether so many zeros end with this status and message.
-fn zeros_end(alloc: Global, length: usize, number: u8, message: &str) -> Result<bool, Fail> {
-    let zeros = vec![in alloc; 0; length]?;
-    let mut memory = with_input(alloc, 65536, zeros.as_slice())?;
     ends(alloc, &mut memory, number, message)
 }
 
@@ -178,52 +150,31 @@ fn a_call_that_is_never_made_cannot_fail(rt: HostRuntime) -> Result<(), Fail> {
     Ok(())
 }
 
-#[test]
-fn each_refusal_names_its_rule_and_place(rt: HostRuntime) -> Result<(), Fail> {
-    let mut moved = DOUBLING;
-    (moved[5], moved[6], moved[7]) = (0x0003_000e, 0, 1);
-    (moved[8], moved[9]) = (0x0002_0011, 1);
-    let mut unknown = moved;
-    unknown[131] = 0x0005_ffff;
-    for (words, bytes, message) in [
-        (&DOUBLING[..0], 0, "error: 001 ShortInput at word 0\n"),
-        (&DOUBLING[..6], 21, "error: 002 OddLength at word 0\n"),
-        (&[0; 5], 20, "error: 003 NotSpirv at word 0\n"),
-        (
-            &DOUBLING[..5],
-            20,
-            "error: 202 MissingCapability at word 5\n",
-        ),
-        (&DOUBLING[..138], 552, "error: 105 PastEnd at word 136\n"),
-        (
-            &DOUBLING[..140],
-            560,
-            "error: 205 FunctionShape at word 140\n",
-        ),
-        (moved.as_slice(), 564, "error: 201 LayoutOrder at word 8\n"),
-        (
-            unknown.as_slice(),
-            564,
-            "error: 106 UnknownOpcode at word 131\n",
-        ),
-    ] {
-        assert!(rt; is_refused(rt.alloc(), words, bytes, message)?, "{message}");
-    }
-    Ok(())
+/// Whether these words of a command are no job, and nothing is asked.
+fn is_no_job(alloc: Global, words: &str) -> Result<bool, Fail> {
+    let mut memory = with_input(alloc, 100, b"")?;
+    let words = command(alloc, words)?;
+    let status = opt(alloc, words.as_slice(), &mut memory);
+    Ok(
+        status.number() == 2
+            && memory.told() == b"error: usage: NotYet\n".as_slice()
+            && memory.asked().is_empty(),
+    )
+}
+
+/// Whether so many zeros end with this status and message.
+fn zeros_end(alloc: Global, length: usize, number: u8, message: &str) -> Result<bool, Fail> {
+    let zeros = vec![in alloc; 0; length]?;
+    let mut memory = with_input(alloc, 65536, zeros.as_slice())?;
+    ends(alloc, &mut memory, number, message)
 }
 
 #[test]
-fn words_that_are_no_job_are_told(rt: HostRuntime) -> Result<(), Fail> {
+fn what_is_no_shader_is_told(rt: HostRuntime) -> Result<(), Fail> {
     let alloc = rt.alloc();
-    assert!(rt; is_no_job(alloc, &[])?);
-    assert!(rt; is_no_job(alloc, &["-O", "in", "-o", "out"])?);
-    assert!(rt; is_no_job(alloc, &["--strip-debug", "in", "-o"])?);
-    Ok(())
-}
-
-#[test]
-fn the_limit_is_told(rt: HostRuntime) -> Result<(), Fail> {
-    let alloc = rt.alloc();
+    assert!(rt; is_no_job(alloc, "")?);
+    assert!(rt; is_no_job(alloc, "-O in -o out")?);
+    assert!(rt; is_no_job(alloc, "--strip-debug in -o")?);
     assert!(rt; zeros_end(alloc, MOST_BYTES, 1, "error: 003 NotSpirv at word 0\n")?);
     assert!(rt; zeros_end(alloc, MOST_BYTES + 1, 5, "error: limit 900\n")?);
     Ok(())
