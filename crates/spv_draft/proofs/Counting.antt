@@ -11,7 +11,7 @@ use Rattle.std.proofs.lemmas.List.Concat.{flat_map-append}
 use Rattle.spv_module.specs.Instruction.{Instruction, IsInstruction, parts}
 use Rattle.spv_draft.specs.Named.{greatest, times, words_with}
 use Rattle.spv_draft.specs.Tallies.{Adds, Counts, tallied}
-use Rattle.spv_draft.proofs.Lists.{take-at}
+use Rattle.spv_placing.proofs.Steps.{take-at}
 
 times_step : (b : Bool) (n m : ℕ) → cond b (n + m + 1) (n + m) ≡ cond b (n + 1) n + m
 times_step true n m = omega arith

@@ -1,16 +1,10 @@
 -- Lists of instructions in which one is put in, taken out or replaced, and how many words they have.
-use Rattle.std.proofs.Common.{◌≡◌, ℕ, zero, suc, ◌+◌, ◌-◌, ◌<◌, ◌≤◌, List, [], ◌∷◌, ◌++◌, length, get_or, take, drop, map, Some, refl, sym, ap, ◌∙◌, arith, add-one}
+use Rattle.std.proofs.Common.{◌≡◌, ℕ, zero, suc, ◌+◌, ◌-◌, ◌<◌, ◌≤◌, List, [], ◌∷◌, ◌++◌, length, get_or, take, drop, map, Some, refl, sym, ap, ◌∙◌, arith}
 use Rattle.std.specs.List.{slice_get, flat_map, insert, remove, slice_set}
-use Rattle.std.proofs.Math.Seq.{take-suc}
 use Rattle.std.proofs.lemmas.List.{length-append}
 use Rattle.std.proofs.lemmas.List.Concat.{flat_map-append}
-use Rattle.std.proofs.lemmas.Option.{get_or_from_slice_get}
 use Rattle.spv_module.specs.Instruction.{Instruction}
-use Rattle.spv_draft.specs.Drafted.{size_in}
-
--- one element more
-pub take-at : {X : Type 0} (xs : List X) (k : ℕ) (x : X) → k < length xs → slice_get xs k ≡ Some x → take (k + 1) xs ≡ take k xs ++ x ∷ []
-take-at xs k x fits at = rw add-one (take-suc xs k x fits ∙ ap (λ y. take k xs ++ y ∷ []) (get_or_from_slice_get xs k x x at))
+use Rattle.spv_placing.specs.Placing.{size_in}
 
 -- what is replaced stands between what is before and what is behind it
 pub set-split : {X : Type 0} (xs : List X) (k : ℕ) (x : X) → k < length xs → slice_set xs k x ≡ take k xs ++ x ∷ drop (suc k) xs
@@ -83,7 +77,3 @@ size-replaced insts i new k n size size2 h at count is more =
 
 pub size-front : (insts : List Instruction) (i : Instruction) (k : ℕ) → slice_get insts k ≡ Some i → size_in (take k insts) + length i.words ≤ size_in insts
 size-front insts i k at = omega (arith, size-split insts i k at)
-
-pub size-more : (insts : List Instruction) (i : Instruction) (k : ℕ) → k < length insts → slice_get insts k ≡ Some i
-    → size_in (take (k + 1) insts) ≡ size_in (take k insts) + length i.words
-size-more insts i k h at = omega (arith, ap words_of (take-at insts k i h at), words-middle (take k insts) [] i)

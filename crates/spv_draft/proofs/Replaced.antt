@@ -10,7 +10,7 @@ use Rattle.spv_grammar.specs.declared.kind.Role.TheVariants.{Opcode}
 use Rattle.spv_grammar.specs.Operands.{roles_of}
 use Rattle.spv_grammar.specs.Roles.{is_used_id}
 use Rattle.spv_module.specs.Instruction.{Instruction, IsInstruction, parts, roles}
-use Rattle.spv_draft.specs.Drafted.{size_in}
+use Rattle.spv_placing.specs.Placing.{size_in}
 use Rattle.spv_draft.specs.Named.{is_annotation, replaced, replaced_in, replaced_word, replaced_words, uses_at, with_word}
 use Rattle.spv_draft.proofs.Lists.{no_more, size-replaced}
 use Rattle.spv_draft.proofs.PutWhole.{parts_stay}

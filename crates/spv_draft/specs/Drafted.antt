@@ -1,6 +1,5 @@
 -- A module under change.
-use Rattle.std.specs.Prelude.{ℕ, ◌+◌, List, ◌++◌, length}
-use Rattle.std.specs.List.{flat_map}
+use Rattle.std.specs.Prelude.{ℕ, List, ◌++◌}
 use Rattle.spv_base.specs.declared.header.Header.{Header}
 use Rattle.spv_module.specs.Code.{Code}
 use Rattle.spv_module.specs.Instruction.{Instruction}
@@ -11,10 +10,6 @@ pub record Drafted : Type 0 where
   pub header : Header
   pub insts : List Instruction
   pub given : List ℕ
-
--- the words of a header and of instructions
-abbrev pub size_in : List Instruction → ℕ
-size_in insts = 5 + length (flat_map (λ i. i.words) insts)
 
 -- the ids that count as named
 abbrev pub taken_ids : Drafted → List ℕ

@@ -1,6 +1,6 @@
 -- Instructions whose words stand in a pool, with words added to the pool.
 use Rattle.std.specs.Prelude.{◌≡◌, ℕ, List, ◌++◌, take, drop}
-use Rattle.spv_draft.specs.Drafted.{size_in}
+use Rattle.spv_placing.specs.Placing.{size_in}
 use Rattle.spv_module.specs.declared.list.Span.{Span}
 use Rattle.spv_module.specs.declared.pool.Pool.{Pool}
 use Rattle.spv_module.specs.Instruction.{Instruction}

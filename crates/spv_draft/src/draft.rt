@@ -62,7 +62,8 @@ impl Draft {
     ghost use Rattle.std.specs.Prelude.{[], Some, count_by, nat_lt, slice_get, slice_set, OnOk, OnErr};
     ghost use Rattle.std.specs.List.{insert as inserted, remove as removed};
     ghost use Rattle.spv_module.specs.Inst.{held};
-    ghost use Rattle.spv_draft.specs.Drafted.{finished, size_in, taken_ids};
+    ghost use Rattle.spv_draft.specs.Drafted.{finished, taken_ids};
+    ghost use Rattle.spv_placing.specs.Placing.{size_in};
     ghost use Rattle.spv_draft.specs.Fresh.{Gives, Knows};
     ghost use Rattle.spv_module.specs.Code.{is_function};
     ghost use Rattle.spv_draft.specs.Functions.{with_function as replaced_function};

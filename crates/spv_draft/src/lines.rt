@@ -1,13 +1,13 @@
-ghost use Rattle.std.specs.Prelude.{◌≡◌, ℕ, ◌+◌, ◌<◌, ◌≤◌, ◌^◌, ◌++◌, ◌∷◌, [], Some, IsOk, IfOk, IfSome, OnErr, List, length, slice_get, slice_set, take, drop};
+ghost use Rattle.std.specs.Prelude.{◌≡◌, ◌<◌, ◌≤◌, ◌^◌, ◌∷◌, [], Some, IsOk, IfOk, OnErr, List, length, slice_get, slice_set, take, drop};
 ghost use Rattle.spv_module.specs.Instruction.{Instruction};
 ghost use Rattle.spv_module.specs.List.{instructions_in, instruction_at, pool_roles, pool_words, AreSpans, IsSpan};
 ghost use Rattle.spv_module.specs.View.{seen};
-ghost use Rattle.spv_draft.specs.Drafted.{size_in};
+ghost use Rattle.spv_placing.specs.Placing.{size_in};
 ghost use Rattle.spv_draft.specs.Lines.{Extends, Keeps, spliced};
 
 use spv_base::NoMemory;
-use spv_grammar::operands::count_of;
 use spv_module::{InstList, Pool, Span, View};
+use spv_placing::{grown, words_in};
 use std::alloc::Global;
 use std::marker::Model;
 
@@ -32,21 +32,6 @@ impl Model for Lines {
     ghost view = { λ lines. instructions_in lines.pool lines.spans.items };
 
     ghost invariant = { λ lines. AreSpans lines.pool lines.spans.items × HasSize lines.size (instructions_in lines.pool lines.spans.items) };
-}
-
-/// The number of words of an instruction.
-fn words_in(inst: &View) -> u32
-    ensures { result ≡ length (seen inst.now).words }
-{
-    u32::from(count_of(inst.words[0]))
-}
-
-/// The number of words with those of an instruction more. 2^32 words or more are want of memory.
-fn grown(size: u32, inst: &View) -> Result<u32, NoMemory>
-    ensures sum { IfOk result (λ more. more ≡ size + length (seen inst.now).words) }
-    ensures fits { size + length (seen inst.now).words < 2 ^ 32 → IsOk result }
-{
-    size.checked_add(words_in(inst)).ok_or(NoMemory)
 }
 
 /// The instruction of a span.

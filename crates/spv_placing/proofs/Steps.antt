@@ -1,8 +1,10 @@
 -- Instructions placed one by one.
-use Rattle.std.proofs.Common.{◌≡◌, ℕ, zero, suc, ◌+◌, ◌<◌, ◌≤◌, List, [], ◌∷◌, ◌++◌, length, take, drop, slice_get, Some, refl, sym, ap, ◌∙◌, arith, append_assoc, append-nil}
+use Rattle.std.proofs.Common.{◌≡◌, ℕ, zero, suc, ◌+◌, ◌<◌, ◌≤◌, List, [], ◌∷◌, ◌++◌, length, take, drop, slice_get, Some, refl, sym, ap, ◌∙◌, arith, add-one, append_assoc, append-nil}
 use Rattle.std.specs.List.{flat_map}
+use Rattle.std.proofs.Math.Seq.{take-suc}
 use Rattle.std.proofs.lemmas.List.{take_all, drop_all, length-append}
 use Rattle.std.proofs.lemmas.List.Concat.{flat_map-append}
+use Rattle.std.proofs.lemmas.Option.{get_or_from_slice_get}
 use Rattle.spv_module.specs.Instruction.{Instruction}
 use Rattle.spv_placing.specs.Placing.{placed_from, size_in}
 
@@ -42,13 +44,9 @@ pub placed_count : (at : ℕ) (insts : List Instruction) → length (placed_from
 placed_count at [] = refl
 placed_count at (i ∷ is) = ap suc (placed_count (at + length i.words) is)
 
-take_more : (xs : List Instruction) (k : ℕ) (x : Instruction) → slice_get xs k ≡ Some x → take (suc k) xs ≡ take k xs ++ x ∷ []
-take_more [] k x e = absurd (cc e)
-take_more (y ∷ ys) zero x e = let same : y ≡ x = cc e in ap (λ z. z ∷ []) same
-take_more (y ∷ ys) (suc k) x e = ap (λ zs. y ∷ zs) (take_more ys k x e)
-
-pub take-at : (xs : List Instruction) (k : ℕ) (x : Instruction) → k < length xs → slice_get xs k ≡ Some x → take (k + 1) xs ≡ take k xs ++ x ∷ []
-take-at xs k x h e = ap (λ (n : ℕ). take n xs) (suc_more k) ∙ take_more xs k x e
+-- one element more
+pub take-at : {X : Type 0} (xs : List X) (k : ℕ) (x : X) → k < length xs → slice_get xs k ≡ Some x → take (k + 1) xs ≡ take k xs ++ x ∷ []
+take-at xs k x fits at = rw add-one (take-suc xs k x fits ∙ ap (λ y. take k xs ++ y ∷ []) (get_or_from_slice_get xs k x x at))
 
 pub size-more : (insts : List Instruction) (k : ℕ) (i : Instruction) → k < length insts → slice_get insts k ≡ Some i
     → size_in (take (k + 1) insts) ≡ size_in (take k insts) + length i.words

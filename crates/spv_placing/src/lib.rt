@@ -2,5 +2,7 @@
 #![tactic(auto)]
 
 mod placing;
+mod sizes;
 
-pub use placing::{check_size, copied, placed};
+pub use placing::{copied, placed};
+pub use sizes::{check_size, grown, words_in};

@@ -1,6 +1,6 @@
 use Rattle.std.proofs.Common.{◌++◌, ◌∷◌, [], refl, take, arith}
 use Rattle.spv_module.specs.View.{seen}
-use Rattle.spv_draft.proofs.Lists.{take-at}
+use Rattle.spv_placing.proofs.Steps.{take-at}
 use Rattle.spv_draft.proofs.Pools.{extends-keeps, extends-kept, extends-more, on_err}
 use Rattle.spv_draft.proofs.lines.append_list.Goals as goal
 

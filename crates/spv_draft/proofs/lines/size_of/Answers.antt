@@ -4,7 +4,8 @@ use Rattle.std.proofs.lemmas.List.{length-map}
 use Rattle.spv_module.specs.Instruction.{Instruction}
 use Rattle.spv_module.specs.List.{instruction_at, instructions_in, pool_words}
 use Rattle.spv_module.specs.View.{seen}
-use Rattle.spv_draft.proofs.Lists.{size-front, size-more}
+use Rattle.spv_placing.proofs.Steps.{size-more}
+use Rattle.spv_draft.proofs.Lists.{size-front}
 use Rattle.spv_draft.proofs.Pools.{told_at}
 use Rattle.spv_draft.proofs.lines.size_of.Goals as goal
 
@@ -23,4 +24,4 @@ spans-preserved c =
     let within : c.spans.k < length insts = omega (arith, length-map c.args.spans.now (instruction_at (pool_words c.args.pool.now))) in
     c.in_ok-words.ensures.sum
     ∙ ap (λ (n : ℕ). n + length (seen c.view.result).words) c.spans.invariant
-    ∙ sym (size-more insts (seen c.view.result) c.spans.k within at)
+    ∙ sym (size-more insts c.spans.k (seen c.view.result) within at)

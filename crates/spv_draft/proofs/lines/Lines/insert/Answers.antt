@@ -4,7 +4,7 @@ use Rattle.spv_module.specs.declared.list.Span.{Span}
 use Rattle.spv_module.specs.Instruction.{Instruction}
 use Rattle.spv_module.specs.List.{instructions_in}
 use Rattle.spv_module.specs.View.{seen}
-use Rattle.spv_draft.specs.Drafted.{size_in}
+use Rattle.spv_placing.specs.Placing.{size_in}
 use Rattle.spv_draft.proofs.Lists.{size-inserted}
 use Rattle.spv_draft.proofs.Pools.{insert-are, insert-told}
 use Rattle.spv_draft.proofs.lines.Lines.insert.Goals as goal

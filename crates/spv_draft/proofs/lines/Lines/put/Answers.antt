@@ -4,7 +4,7 @@ use Rattle.std.proofs.lemmas.List.{length-map}
 use Rattle.spv_module.specs.Instruction.{Instruction}
 use Rattle.spv_module.specs.List.{instruction_at, instructions_in, pool_words}
 use Rattle.spv_module.specs.View.{seen}
-use Rattle.spv_draft.specs.Drafted.{size_in}
+use Rattle.spv_placing.specs.Placing.{size_in}
 use Rattle.spv_draft.proofs.Lists.{no_more, size-replaced}
 use Rattle.spv_draft.proofs.Pools.{set-are, set-told, within_spans}
 use Rattle.spv_draft.proofs.lines.Lines.put.Goals as goal

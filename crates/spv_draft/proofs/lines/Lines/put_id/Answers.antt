@@ -2,7 +2,7 @@ use Rattle.std.proofs.Common.{List, sym, ap, ◌∙◌, arith}
 use Rattle.std.specs.List.{slice_set}
 use Rattle.spv_module.specs.Instruction.{Instruction}
 use Rattle.spv_module.specs.List.{instruction_at, pool_words}
-use Rattle.spv_draft.specs.Drafted.{size_in}
+use Rattle.spv_placing.specs.Placing.{size_in}
 use Rattle.spv_draft.specs.Named.{with_word}
 use Rattle.spv_draft.proofs.Pools.{one_of, used_here, word-put}
 use Rattle.spv_draft.proofs.Replaced.{size-with_word}

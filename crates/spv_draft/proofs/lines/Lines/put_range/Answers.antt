@@ -2,7 +2,7 @@ use Rattle.std.proofs.Common.{◌≡◌, List, sym, ap, subst, ◌∙◌}
 use Rattle.spv_module.specs.declared.list.Span.{Span}
 use Rattle.spv_module.specs.Instruction.{Instruction}
 use Rattle.spv_module.specs.List.{instructions_in, AreSpans}
-use Rattle.spv_draft.specs.Drafted.{size_in}
+use Rattle.spv_placing.specs.Placing.{size_in}
 use Rattle.spv_draft.specs.Lines.{spliced}
 use Rattle.spv_draft.proofs.Pools.{extends-are, extends-keeps, extends-told, on_err}
 use Rattle.spv_draft.proofs.lines.Lines.put_range.Goals as goal

@@ -3,7 +3,7 @@ use Rattle.std.specs.List.{remove}
 use Rattle.spv_module.specs.Instruction.{Instruction}
 use Rattle.spv_module.specs.List.{instructions_in, AreSpans}
 use Rattle.spv_module.specs.View.{seen}
-use Rattle.spv_draft.specs.Drafted.{size_in}
+use Rattle.spv_placing.specs.Placing.{size_in}
 use Rattle.spv_draft.proofs.Lists.{no_more, size-removed}
 use Rattle.spv_draft.proofs.Pools.{remove-are, remove-told, within_spans}
 use Rattle.spv_draft.proofs.lines.Lines.remove.Goals as goal

@@ -1,7 +1,7 @@
 use Rattle.std.proofs.Common.{ℕ, ◌+◌, length, sym, ap, ◌∙◌, arith}
 use Rattle.spv_module.specs.View.{seen}
 use Rattle.spv_placing.proofs.Steps.{size-more}
-use Rattle.spv_placing.proofs.placing.size_of.Goals as goal
+use Rattle.spv_placing.proofs.sizes.size_of.Goals as goal
 
 pub instructions-preserved : goal.instructions-preserved
 instructions-preserved c = record {
