@@ -10,3 +10,4 @@ pub mod LayoutScan
 pub mod Sections
 pub mod Decoding
 pub mod Told
+pub mod Turned

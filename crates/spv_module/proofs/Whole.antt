@@ -1,10 +1,10 @@
 -- When words are an instruction of the profile.
-use Rattle.std.proofs.Common.{◌≡◌, ℕ, ◌<◌, ◌^◌, List, [], ◌∷◌, ◌++◌, length, get_or, Option, Some, None, Result, Ok, Err, refl, sym, ap, subst, ◌∙◌, arith}
+use Rattle.std.proofs.Common.{◌≡◌, ℕ, ◌<◌, ◌^◌, List, [], length, Option, Some, None, Result, Ok, Err, refl, sym, ap, subst, ◌∙◌}
 use Rattle.spv_grammar.specs.declared.kind.Role.{Role}
 use Rattle.std.specs.List.{slice_index}
 use Rattle.spv_grammar.proofs.RoleCounts.{length-roles_of}
-use Rattle.spv_grammar.specs.Operands.{roles_of, behind, answered, count_of, Reads}
-use Rattle.spv_module.specs.Instruction.{Instruction, IsInstruction, roles_rules, instruction_rules}
+use Rattle.spv_grammar.specs.Operands.{roles_of, behind, count_of, Reads}
+use Rattle.spv_module.specs.Instruction.{IsInstruction, parts, roles_rules, instruction_rules}
 
 -- what was read in front of nothing
 behind_nil : (expected : Result (List Role) ℕ) → behind [] expected ≡ expected
@@ -39,3 +39,18 @@ pub whole_as_read : (words words2 : List ℕ) (old new : List Role) (broken : Op
 whole_as_read words words2 old new broken empty same h some counted unbroken =
     let parted : roles_of words ≡ Ok new = read_parts (2 ^ 32) words new broken (subst (λ (front : List Role). Reads (roles_of words) front new broken) empty h) unbroken in
     rw same (record { some = some; counted = counted; parted = parted; long = length-roles_of words new parted; unbroken = unbroken })
+
+-- what was read of such words in front of nothing are the parts that they spell
+pub parts_read : (words : List ℕ) (old new : List Role) (broken : Option ℕ) → old ≡ [] → Reads (roles_of words) old new broken → instruction_rules (2 ^ 32) words ≡ [] → new ≡ parts (roles_of words)
+parts_read words old new broken empty h unbroken =
+    sym (ap parts (read_parts (2 ^ 32) words new broken (subst (λ (front : List Role). Reads (roles_of words) front new broken) empty h) unbroken))
+
+have_parts : (bound : ℕ) (words : List ℕ) (expected : Result (List Role) ℕ) → roles_of words ≡ expected → instruction_rules bound words ≡ [] → roles_of words ≡ Ok (parts expected)
+have_parts bound words (Ok roles) e h = e
+have_parts bound words (Err rule) e h = absurd (no_misfit bound words rule e h)
+
+-- such words are an instruction with the parts that they spell
+pub whole_by_words : (words : List ℕ) → 0 < length words → count_of (slice_index words 0) ≡ length words → instruction_rules (2 ^ 32) words ≡ [] → IsInstruction words (parts (roles_of words))
+whole_by_words words some counted unbroken =
+    let parted : roles_of words ≡ Ok (parts (roles_of words)) = have_parts (2 ^ 32) words (roles_of words) refl unbroken in
+    record { some = some; counted = counted; parted = parted; long = length-roles_of words (parts (roles_of words)) parted; unbroken = unbroken }

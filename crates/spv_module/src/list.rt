@@ -37,8 +37,9 @@ impl Model for InstList {
 }
 
 impl InstList {
-    ghost use Rattle.std.specs.Prelude.{ℕ};
-    ghost use Rattle.spv_module.specs.Instruction.{Instruction, IsInstruction, roles};
+    ghost use Rattle.std.specs.Prelude.{ℕ, ◌≤◌, ◌^◌, drop, slice_index, take};
+    ghost use Rattle.spv_grammar.specs.Operands.{count_of};
+    ghost use Rattle.spv_module.specs.Instruction.{Instruction, IsInstruction, instruction_rules, roles};
     ghost use Rattle.spv_module.specs.View.{seen};
     ghost use Rattle.spv_module.specs.Inst.{held};
     ghost use Rattle.spv_module.specs.List.{instructions_in, AreSpans};
@@ -75,6 +76,34 @@ impl InstList {
             end: self.pool.count(),
         })?;
         Ok(())
+    }
+
+    /// Adds the instruction of these words, at offset 0. They are to be one instruction of the profile. Where memory is wanting the list stays
+    /// as it was.
+    pub fn push_words(&mut self, alloc: Global, words: &[u32]) -> Result<(), NoMemory>
+        requires some { 0 < length words.now }
+        requires counted { count_of (slice_index words.now 0) ≡ length words.now }
+        requires unbroken { instruction_rules (2 ^ 32) words.now ≡ [] }
+        ensures ok { OnOk result (self.new ≡ self.old ++ (record { offset = 0; words = words.now }) ∷ []) }
+        ensures err { OnErr result (self.new ≡ self.old) }
+    {
+        self.spans.reserve(1)?;
+        let start = self.pool.count();
+        self.pool.append_words(alloc, words)?;
+        self.spans.push(Span {
+            offset: 0,
+            start,
+            end: self.pool.count(),
+        })?;
+        Ok(())
+    }
+
+    /// Moves the first `count` instructions behind the others.
+    pub fn rotate_left(&mut self, count: usize)
+        requires { count ≤ length self.old }
+        ensures { self.new ≡ drop count self.old ++ take count self.old }
+    {
+        self.spans.rotate_left(count);
     }
 
     /// The number of instructions.

@@ -1,8 +1,11 @@
-ghost use Rattle.std.specs.Prelude.{◌≡◌, length};
+ghost use Rattle.std.specs.Prelude.{◌≡◌, ◌<◌, ◌^◌, [], length, slice_index, OnOk};
+ghost use Rattle.spv_grammar.specs.Operands.{count_of, roles_of};
+ghost use Rattle.spv_module.specs.Instruction.{instruction_rules, parts};
 
 use crate::view::View;
 use spv_base::NoMemory;
 use spv_grammar::kind::Role;
+use spv_grammar::operands::push_roles;
 use std::alloc::Global;
 
 /// Words, and the part that each plays in its instruction.
@@ -10,11 +13,28 @@ use std::alloc::Global;
 pub struct Pool {
     words: Vec<u32>,
     roles: Vec<Role>,
+    /// Room for the parts of an instruction that is read.
+    reading: Vec<Role>,
     ghost parted: { length roles.items ≡ length words.items },
 }
 
+/// Puts the part that each word plays in the place of what `roles` has. The words are to be one instruction of the profile.
+fn read_roles(alloc: Global, words: &[u32], roles: &mut Vec<Role>) -> Result<(), NoMemory>
+    requires some { 0 < length words.now }
+    requires counted { count_of (slice_index words.now 0) ≡ length words.now }
+    requires unbroken { instruction_rules (2 ^ 32) words.now ≡ [] }
+    ensures parts { OnOk result (roles.new.items ≡ parts (roles_of words.now)) }
+    ensures long { OnOk result (length roles.new.items ≡ length words.now) }
+{
+    roles.clear();
+    let None = push_roles(alloc, words, roles)? else {
+        unreachable!();
+    };
+    Ok(())
+}
+
 impl Pool {
-    ghost use Rattle.std.specs.Prelude.{[], ◌≤◌, ◌<◌, ◌++◌, slice_range, slice_set, OnOk, OnErr};
+    ghost use Rattle.std.specs.Prelude.{◌≤◌, ◌++◌, slice_range, slice_set, OnErr};
     ghost use Rattle.spv_module.specs.Instruction.{IsInstruction};
 
     pub fn new(alloc: Global) -> Pool
@@ -24,6 +44,7 @@ impl Pool {
         Pool {
             words: Vec::new(alloc),
             roles: Vec::new(alloc),
+            reading: Vec::new(alloc),
         }
     }
 
@@ -44,6 +65,23 @@ impl Pool {
         self.words.reserve(inst.words.len())?;
         self.roles.extend_from_slice(inst.roles())?;
         self.words.extend_from_slice(inst.words).unwrap();
+        Ok(())
+    }
+
+    /// Adds the words of an instruction, which are to be one of the profile. Where memory is wanting all stays as it was.
+    pub fn append_words(&mut self, alloc: Global, words: &[u32]) -> Result<(), NoMemory>
+        requires some { 0 < length words.now }
+        requires counted { count_of (slice_index words.now 0) ≡ length words.now }
+        requires unbroken { instruction_rules (2 ^ 32) words.now ≡ [] }
+        ensures words { OnOk result (self.new.words.items ≡ self.old.words.items ++ words.now) }
+        ensures roles { OnOk result (self.new.roles.items ≡ self.old.roles.items ++ parts (roles_of words.now)) }
+        ensures err_words { OnErr result (self.new.words.items ≡ self.old.words.items) }
+        ensures err_roles { OnErr result (self.new.roles.items ≡ self.old.roles.items) }
+    {
+        read_roles(alloc, words, &mut self.reading)?;
+        self.words.reserve(words.len())?;
+        self.roles.extend_from_slice(&self.reading)?;
+        self.words.extend_from_slice(words).unwrap();
         Ok(())
     }
 

@@ -6,7 +6,6 @@ use Rattle.spv_blocks.specs.Cutting.{function_insts}
 use Rattle.spv_normal.specs.Normal.{normal_function}
 use Rattle.spv_norm.specs.Norm.{function_lines}
 use Rattle.std.proofs.lemmas.Grind.{flat_map-append}
-use Rattle.std.proofs.lemmas.List.{map-append}
 use Rattle.spv_bodies.specs.Listing.{listed}
 use Rattle.spv_tree.specs.declared.body.Body.{Body}
 use Rattle.spv_tree.specs.Sound.{IsSound}
@@ -35,11 +34,10 @@ pub body_sound : (insts : List Instruction) (bodies : List Body) (k : ℕ) (body
 body_sound insts bodies k body trees at = (trees.each k body at).sound
 
 -- one function more
-pub function_next : (insts now after one : List Instruction) (bodies : List Body) (k : ℕ) (body : Body) → AreTrees insts bodies → slice_get bodies k ≡ Some body
-    → words_of now ≡ lines_below insts k → words_of one ≡ listed (body_of body) → after ≡ now ++ one → words_of after ≡ lines_below insts (k + 1)
-function_next insts now after one bodies k body trees at e d is =
-    ap words_of is ∙ map-append (λ i. i.words) now one ∙ ap (λ xs. xs ++ words_of one) e
-    ∙ ap (λ xs. lines_below insts k ++ xs) (d ∙ (trees.each k body at).normal) ∙ sym (lines_more insts k)
+pub function_next : (insts now after : List Instruction) (bodies : List Body) (k : ℕ) (body : Body) → AreTrees insts bodies → slice_get bodies k ≡ Some body
+    → words_of now ≡ lines_below insts k → words_of after ≡ words_of now ++ listed (body_of body) → words_of after ≡ lines_below insts (k + 1)
+function_next insts now after bodies k body trees at e d =
+    d ∙ ap (λ xs. xs ++ listed (body_of body)) e ∙ ap (λ xs. lines_below insts k ++ xs) (trees.each k body at).normal ∙ sym (lines_more insts k)
 
 -- all functions
 pub functions_all : (insts now : List Instruction) (bodies : List Body) (k : ℕ) → AreTrees insts bodies → length bodies ≤ k → k ≤ length bodies → words_of now ≡ lines_below insts k

@@ -2,6 +2,7 @@
 use Rattle.std.proofs.Common.{◌≡◌, ℕ, zero, suc, ◌+◌, ◌<◌, ◌≤◌, Bool, true, false, cond, ◌||◌, ◌==◌, List, [], ◌∷◌, ◌++◌, filter, take, drop, length, slice_get, Some, refl, sym, ap, ◌∙◌, arith, append_assoc, append-nil}
 use Rattle.std.specs.List.{list_any}
 use Rattle.std.proofs.lemmas.Bool.{ne_eqb}
+use Rattle.std.proofs.lemmas.List.{drop_at, take_at}
 use Rattle.std.proofs.lemmas.List.Elements.{filter-append}
 use Rattle.spv_opcodes.specs.declared.op.TheConstants as op
 use Rattle.spv_module.specs.Code.{is_function}
@@ -21,22 +22,21 @@ suc_more k = omega arith
 pub take_next : {X : Type 0} (xs : List X) (k : ℕ) (x : X) → slice_get xs k ≡ Some x → take (k + 1) xs ≡ take k xs ++ x ∷ []
 take_next xs k x e = ap (λ n. take n xs) (suc_more k) ∙ take_one_more xs k x e
 
--- instructions are added one by one
-pub pushed_next : (old now after more : List Instruction) (k : ℕ) (x : Instruction) → now ≡ old ++ take k more → after ≡ now ++ x ∷ [] → slice_get more k ≡ Some x
-    → after ≡ old ++ take (k + 1) more
-pushed_next old now after more k x e d at =
-    d ∙ ap (λ xs. xs ++ x ∷ []) e ∙ append_assoc old (take k more) (x ∷ []) ∙ ap (λ xs. old ++ xs) (sym (take_next more k x at))
-
--- those that pass a test are
-pub filtered_next : (test : Instruction → Bool) (now after more : List Instruction) (k : ℕ) (x : Instruction) → now ≡ filter test (take k more)
-    → after ≡ now ++ cond (test x) (x ∷ []) [] → slice_get more k ≡ Some x → after ≡ filter test (take (k + 1) more)
-filtered_next test now after more k x e d at =
-    d ∙ ap (λ xs. xs ++ cond (test x) (x ∷ []) []) e ∙ ap (λ xs. filter test (take k more) ++ xs) (one (test x) refl) ∙ sym (filter-append test (take k more) (x ∷ []))
-    ∙ ap (filter test) (sym (take_next more k x at))
+-- instructions that pass a test are added one by one
+pub filtered_next : (test : Instruction → Bool) (old now after more : List Instruction) (k : ℕ) (x : Instruction) → now ≡ old ++ filter test (take k more)
+    → after ≡ now ++ cond (test x) (x ∷ []) [] → slice_get more k ≡ Some x → after ≡ old ++ filter test (take (k + 1) more)
+filtered_next test old now after more k x e d at =
+    d ∙ ap (λ xs. xs ++ cond (test x) (x ∷ []) []) e ∙ append_assoc old (filter test (take k more)) (cond (test x) (x ∷ []) [])
+    ∙ ap (λ xs. old ++ (filter test (take k more) ++ xs)) (one (test x) refl) ∙ ap (λ xs. old ++ xs) (sym (filter-append test (take k more) (x ∷ [])))
+    ∙ ap (λ xs. old ++ filter test xs) (sym (take_next more k x at))
   where
     one : (z : Bool) → test x ≡ z → cond z (x ∷ []) [] ≡ filter test (x ∷ [])
     one true h = rw h refl
     one false h = rw h refl
+
+-- the instructions that were added last come first, where those before them are moved behind them
+pub last_first : (first last both turned : List Instruction) (n : ℕ) → n ≡ length first → both ≡ first ++ last → turned ≡ drop n both ++ take n both → turned ≡ last ++ first
+last_first first last both turned n e d is = is ∙ rw (e, d) (cc (drop_at first last (length first) refl, take_at first last (length first) refl))
 
 -- labels are added one by one
 pub labelled_next : (before after : ℕ → Bool) (insts : List Instruction) (k : ℕ) (x : Instruction)

@@ -1,30 +1,20 @@
-ghost use Rattle.std.specs.Prelude.{◌≡◌, ◌++◌, IfOk, OnOk};
+ghost use Rattle.std.specs.Prelude.{◌≡◌, IfOk};
 ghost use Rattle.spv_tree.specs.Tree.{words_of};
 ghost use Rattle.spv_bound.specs.Bound.{bound_of_ids};
 ghost use Rattle.spv_norm.specs.Norm.{IsNorm, function_lines};
 ghost use Rattle.spv_norm.specs.Bodies.{AreTrees};
 
 use crate::label_set::labels;
-use crate::staying::staying_outside;
+use crate::staying::push_staying_outside;
 use spv_base::{Header, NoMemory};
 use spv_bound::bound_of;
 use spv_ids::Definitions;
 use spv_module::{Flat, InstList};
-use spv_tree::{Body, flatten};
+use spv_tree::{Body, flatten_into};
 use std::alloc::Global;
 
 /// The most instructions of a module.
 const LONGEST: usize = 0xFFFF_FFFF;
-
-/// Adds instructions at the end.
-fn push_all(insts: &mut InstList, more: &InstList) -> Result<(), NoMemory>
-    ensures { OnOk result (insts.new ≡ insts.old ++ more.now) }
-{
-    'instructions: for k in 0..more.count() {
-        insts.push_view(more.at(k))?;
-    }
-    Ok(())
-}
 
 /// The functions of a module in their normal forms, by their trees.
 fn functions(alloc: Global, flat: &Flat, bodies: &[Body]) -> Result<InstList, NoMemory>
@@ -33,7 +23,7 @@ fn functions(alloc: Global, flat: &Flat, bodies: &[Body]) -> Result<InstList, No
 {
     let mut insts = InstList::new(alloc);
     'bodies: for body in bodies {
-        push_all(&mut insts, &flatten(alloc, body)?)?;
+        flatten_into(alloc, &mut insts, body)?;
     }
     Ok(insts)
 }
@@ -51,14 +41,16 @@ fn sealed(alloc: Global, header: Header, insts: InstList) -> Result<Flat, NoMemo
 }
 
 /// A module in its normal form, by the trees of its functions.
+#[tactic(auto, using(crate::proofs::Stepwise::last_first))]
 pub fn norm(alloc: Global, flat: &Flat, bodies: &[Body]) -> Result<Flat, NoMemory>
     requires { AreTrees flat.now.insts bodies.now }
     ensures { IfOk result (λ norm. IsNorm flat.now norm) }
 {
-    let functions = functions(alloc, flat, bodies)?;
-    let labels = labels(alloc, &functions)?;
+    let mut insts = functions(alloc, flat, bodies)?;
+    let behind = insts.count();
+    let labels = labels(alloc, &insts)?;
     let definitions = Definitions::of(alloc, flat)?;
-    let mut insts = staying_outside(alloc, &definitions, &labels)?;
-    push_all(&mut insts, &functions)?;
+    push_staying_outside(&mut insts, &definitions, &labels)?;
+    insts.rotate_left(behind);
     sealed(alloc, flat.header(), insts)
 }

@@ -1,4 +1,4 @@
-ghost use Rattle.std.specs.Prelude.{◌≡◌, ℕ, ◌≤◌, ◌&&◌, ◌==◌, ◌++◌, not, cond, [], ◌∷◌, take, IfOk, OnOk, length};
+ghost use Rattle.std.specs.Prelude.{◌≡◌, ℕ, ◌≤◌, ◌&&◌, ◌==◌, ◌++◌, not, cond, [], ◌∷◌, take, OnOk, length};
 ghost use Rattle.std.specs.BTreeSet.{contains};
 ghost use Rattle.std.specs.Ordering.{nat_cmp};
 ghost use Rattle.std.specs.List.{list_any, zip};
@@ -14,7 +14,6 @@ use spv_ids::Definitions;
 use spv_module::layout::is_line;
 use spv_module::{InstList, View};
 use spv_opcodes::op;
-use std::alloc::Global;
 use std::collections::BTreeSet;
 
 /// Whether the word is the id of the result's type or of an operand.
@@ -61,21 +60,20 @@ fn stays(definitions: &Definitions, labels: &BTreeSet<u32>, inst: &View) -> bool
     !is_line(inst) && !(is_naming(inst) && have_gone(definitions, labels, inst.roles(), inst.words))
 }
 
-/// The instructions before the first function that stay.
-pub(crate) fn staying_outside(
-    alloc: Global,
+/// Adds the instructions before the first function that stay.
+pub(crate) fn push_staying_outside(
+    insts: &mut InstList,
     definitions: &Definitions,
     labels: &BTreeSet<u32>,
-) -> Result<InstList, NoMemory>
+) -> Result<(), NoMemory>
     requires { AreStayingLabels definitions.now (λ l. contains nat_cmp labels.now l) }
-    ensures { IfOk result (λ insts. insts ≡ staying definitions.now) }
+    ensures { OnOk result (insts.new ≡ insts.old ++ staying definitions.now) }
 {
     let all = definitions.insts();
-    let mut insts = InstList::new(alloc);
     'instructions: for k in 0..outside_count(all) {
-        push_staying(&mut insts, definitions, labels, &all.at(k))?;
+        push_staying(insts, definitions, labels, &all.at(k))?;
     }
-    Ok(insts)
+    Ok(())
 }
 
 /// Adds an instruction that stands outside functions, if it stays.

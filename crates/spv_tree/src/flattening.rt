@@ -32,14 +32,22 @@ pub fn flatten(alloc: Global, body: &Body) -> Result<InstList, NoMemory>
     requires { IsSound (body_of body.now) }
     ensures { IfOk result (λ insts. words_of insts ≡ listed (body_of body.now)) }
 {
-    let arrivals = Arrivals::of(alloc, body)?;
     let mut insts = InstList::new(alloc);
-    insts.push_view(body.function.view())?;
-    push_list(&mut insts, &body.parameters)?;
-    push_label(alloc, &mut insts, body.label)?;
-    push_sequence(alloc, &mut insts, &arrivals, &body.sequence)?;
-    push_function_end(alloc, &mut insts)?;
+    flatten_into(alloc, &mut insts, body)?;
     Ok(insts)
+}
+
+/// Adds the instructions of a function to a list, as `flatten` gives them.
+pub fn flatten_into(alloc: Global, insts: &mut InstList, body: &Body) -> Result<(), NoMemory>
+    requires { IsSound (body_of body.now) }
+    ensures { OnOk result (words_of insts.new ≡ words_of insts.old ++ listed (body_of body.now)) }
+{
+    let arrivals = Arrivals::of(alloc, body)?;
+    insts.push_view(body.function.view())?;
+    push_list(insts, &body.parameters)?;
+    push_label(alloc, insts, body.label)?;
+    push_sequence(alloc, insts, &arrivals, &body.sequence)?;
+    push_function_end(alloc, insts)
 }
 
 fn push_list(insts: &mut InstList, list: &InstList) -> Result<(), NoMemory>

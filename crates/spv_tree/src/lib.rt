@@ -20,4 +20,4 @@ pub use body::{
 };
 pub use control::Control;
 pub use facts::facts_of_soundness;
-pub use flattening::flatten;
+pub use flattening::{flatten, flatten_into};

@@ -7,7 +7,7 @@ ghost use Rattle.spv_tree.specs.Tree.{words_of};
 
 use crate::control::Control;
 use spv_base::{Id, NoMemory};
-use spv_module::{Inst, InstList};
+use spv_module::InstList;
 use spv_opcodes::op;
 use std::alloc::Global;
 
@@ -25,7 +25,7 @@ pub fn push_words(alloc: Global, insts: &mut InstList, words: &[u32]) -> Result<
     requires unbroken { instruction_rules (2 ^ 32) words.now ≡ [] }
     ensures { OnOk result (words_of insts.new ≡ words_of insts.old ++ words.now ∷ []) }
 {
-    insts.push(Inst::new(alloc, words)?)
+    insts.push_words(alloc, words)
 }
 
 /// Adds an OpLabel.

@@ -3,16 +3,16 @@ use Rattle.std.proofs.lemmas.Option.{slice_get_read}
 use Rattle.spv_norm.proofs.FunctionLines.{body_sound, function_next, functions_all}
 use Rattle.spv_norm.proofs.normalizing.functions.Goals as goal
 
-pub flatten-requires : goal.flatten-requires
-flatten-requires c =
+pub flatten_into-requires : goal.flatten_into-requires
+flatten_into-requires c =
     body_sound c.args.flat.now.insts c.args.bodies.now c.bodies.body-index c.body-item.result c.requires
     (slice_get_read c.args.bodies.now (length c.args.bodies.now) c.bodies.body-index c.body-item.result refl c.bodies-test.true c.body-item.is)
 
 pub bodies-preserved : goal.bodies-preserved
 bodies-preserved c =
-    function_next c.args.flat.now.insts c.bodies.insts c.push_all.new.insts c.in_ok-flatten.field-0 c.args.bodies.now c.bodies.body-index c.body-item.result c.requires
+    function_next c.args.flat.now.insts c.bodies.insts c.flatten_into.new.insts c.args.bodies.now c.bodies.body-index c.body-item.result c.requires
     (slice_get_read c.args.bodies.now (length c.args.bodies.now) c.bodies.body-index c.body-item.result refl c.bodies-test.true c.body-item.is) c.bodies.invariant
-    c.in_ok-flatten.ensures c.in_ok-push_all.ensures
+    c.in_ok-flatten_into.ensures
 
 pub returns : goal.returns
 returns c =
