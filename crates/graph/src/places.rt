@@ -29,6 +29,13 @@ impl Places {
         }
     }
 
+    /// The places of a vector.
+    pub fn from_vec(items: Vec<usize>) -> Places
+        ensures { result ≡ items.items }
+    {
+        Places { items }
+    }
+
     /// The places of a slice.
     pub fn of(alloc: Global, places: &[usize]) -> Result<Places, NoMemory>
         ensures { IfOk result (λ list. list ≡ places.now) }

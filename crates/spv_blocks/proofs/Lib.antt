@@ -5,3 +5,4 @@ pub mod Constructs
 pub mod PlaceSteps
 pub mod FoundLaws
 pub mod EdgeLaws
+pub mod EndTargets

@@ -62,12 +62,12 @@ kept_one false k None n none is = is
 kept_one false k (Some m) n none is = is
 
 -- a label that has no place gets one
-pub keeps : (old new : Table) (k label : ℕ) → None ≡ found old label → ((l : ℕ) → found new l ≡ cond (label == l) (Some k) (found old l)) → KeepsPlace old new k label
+pub keeps : (old new : Table ℕ) (k label : ℕ) → None ≡ found old label → ((l : ℕ) → found new l ≡ cond (label == l) (Some k) (found old l)) → KeepsPlace old new k label
 keeps old new k label none puts = record {
   at = λ l. kept_one (label == l) k (found old l) (found new l) (λ same. none ∙ ap (found old) (equal label l same)) (puts l);
 }
 
-pub places-more : (old new : Table) (f after : Code) (k : ℕ) (b : Block) → length f ≡ k → after ≡ f ++ b ∷ [] →
+pub places-more : (old new : Table ℕ) (f after : Code) (k : ℕ) (b : Block) → length f ≡ k → after ≡ f ++ b ∷ [] →
     HasPlaces old f → KeepsPlace old new k b.label → HasPlaces new after
 places-more old new f after k b long more has adds = record {
   at = λ l.
@@ -141,7 +141,7 @@ pub block-none : (f : Code) (l : ℕ) → None ≡ place f l → None ≡ block 
 block-none f l none = none_some (block f l) (ap is_some none ∙ label-place f l)
 
 -- two counts one after the other
-pub adds-both : (old mid new : Table) (one other both : ℕ → ℕ) → ((l : ℕ) → one l + other l ≡ both l) →
+pub adds-both : (old mid new : Table ℕ) (one other both : ℕ → ℕ) → ((l : ℕ) → one l + other l ≡ both l) →
     AddsNames old mid one → AddsNames mid new other → AddsNames old new both
 adds-both old mid new one other both sum first second = record {
   at = λ l n counted_so. let plus = sum l in
@@ -161,7 +161,7 @@ pub names_in-push : (is : List Ins) (i : Ins) (l : ℕ) → names_in is l + time
 names_in-push [] i l = omega arith
 names_in-push (j ∷ is) i l = let later = names_in-push is i l in omega arith
 
-pub body-more : (old mid new : Table) (body : List DeclaredIns) (k : ℕ) (i : DeclaredIns) → slice_get body k ≡ Some i →
+pub body-more : (old mid new : Table ℕ) (body : List DeclaredIns) (k : ℕ) (i : DeclaredIns) → slice_get body k ≡ Some i →
     AddsNames old mid (names_in (map seen_ins (take k body))) → AddsNames mid new (times (roles (seen_ins i))) →
     AddsNames old new (names_in (map seen_ins (take (k + 1) body)))
 body-more old mid new body k i at first second =
@@ -174,7 +174,7 @@ names-push : (f : Code) (b : Block) (l : ℕ) → names f l + names_in b.body l 
 names-push [] b l = omega arith
 names-push (c ∷ f) b l = let later = names-push f b l in omega arith
 
-pub names-more : (old new : Table) (f after : Code) (b : Block) → after ≡ f ++ b ∷ [] → HasNames old f → AddsNames old new (names_in b.body) → HasNames new after
+pub names-more : (old new : Table ℕ) (f after : Code) (b : Block) → after ≡ f ++ b ∷ [] → HasNames old f → AddsNames old new (names_in b.body) → HasNames new after
 names-more old new f after b more has adds = record {
   at = λ l. adds.at l (names f l) (has.at l) ∙ ap (λ n. min n 2) (names-push f b l ∙ ap (λ g. names g l) (sym more));
 }

@@ -28,11 +28,11 @@ abbrev pub row_of : Code → Block → List ℕ
 row_of f b = map (number_of f) (end_targets b.end)
 
 -- a table has the places of the labels
-pub record HasPlaces (places : Table) (f : Code) : Type 0 where
+pub record HasPlaces (places : Table ℕ) (f : Code) : Type 0 where
   pub at : (l : ℕ) → found places l ≡ place f l
 
--- the k-th block is kept, unless one with its label is there
-pub record KeepsPlace (old new : Table) (k label : ℕ) : Type 0 where
+-- a number is kept of a label, unless there is one
+pub record KeepsPlace (old new : Table ℕ) (k label : ℕ) : Type 0 where
   pub at : (l : ℕ) → found new l ≡ option_or (found old l) (cond (label == l) (Some k) None)
 
 -- a number is added to a map, unless it has one of the label
@@ -40,13 +40,13 @@ pub record AddsPlace (old new : BTreeMap ℕ ℕ) (k label : ℕ) : Type 0 where
   pub at : (l : ℕ) → get nat_cmp new l ≡ option_or (get nat_cmp old l) (cond (label == l) (Some k) None)
 
 -- what a table of counts has of a label
-abbrev pub counted : Table → ℕ → ℕ
+abbrev pub counted : Table ℕ → ℕ → ℕ
 counted counts l = unwrap_or (found counts l) 0
 
 -- a table has the counts of the labels
-pub record HasNames (counts : Table) (f : Code) : Type 0 where
+pub record HasNames (counts : Table ℕ) (f : Code) : Type 0 where
   pub at : (l : ℕ) → counted counts l ≡ named f l
 
 -- to the count of each label is added how often it is named more
-pub record AddsNames (old new : Table) (more : ℕ → ℕ) : Type 0 where
+pub record AddsNames (old new : Table ℕ) (more : ℕ → ℕ) : Type 0 where
   pub at : (l n : ℕ) → counted old l ≡ min n 2 → counted new l ≡ min (n + more l) 2

@@ -1,4 +1,4 @@
-ghost use Rattle.std.specs.Prelude.{◌≡◌, ◌++◌, OnOk, IfOk};
+ghost use Rattle.std.specs.Prelude.{◌≡◌, ◌<◌, ◌++◌, length, slice_index, OnOk, IfOk};
 ghost use Rattle.std.specs.Option.{option_map};
 ghost use Rattle.spv_blocks.specs.Blocks.{end_targets, opens, seconds};
 ghost use Rattle.spv_blocks.specs.Seen.{seen_ins, seen_end, seen_construct};
@@ -117,8 +117,47 @@ fn push_seconds(labels: &mut Vec<u32>, pairs: &[(u32, u32)]) -> Result<(), NoMem
     Ok(())
 }
 
+/// How many labels a terminator names.
+#[tactic(auto, using(crate::proofs::EndTargets::count_seconds))]
+fn target_count_of(end: &End) -> usize
+    ensures { result ≡ length (end_targets (seen_end end.now)) }
+{
+    match end {
+        End::Branch(_) => 1,
+        End::BranchIf(..) => 2,
+        End::Switch(_, cases) => 1 + cases.len(),
+        End::Return | End::Unreachable | End::Open => 0,
+    }
+}
+
+/// The second of the k-th pair, counted from 0.
+#[tactic(auto, using(crate::proofs::EndTargets::second_at))]
+fn second_at(pairs: &[(u32, u32)], k: usize) -> u32
+    requires { k < length pairs.now }
+    ensures { result ≡ slice_index (seconds pairs.now) k }
+{
+    pairs[k].1
+}
+
+/// The k-th label that a terminator names, counted from 0.
+fn target_of(end: &End, k: usize) -> u32
+    requires { k < length (end_targets (seen_end end.now)) }
+    ensures { result ≡ slice_index (end_targets (seen_end end.now)) k }
+{
+    match end {
+        End::Branch(target) => *target,
+        End::BranchIf(one, other) => if k == 0 { *one } else { *other },
+        End::Switch(default, cases) => if k == 0 {
+            *default
+        } else {
+            second_at(cases, k - 1)
+        },
+        End::Return | End::Unreachable | End::Open => unreachable!(),
+    }
+}
+
 impl Block {
-    ghost use Rattle.std.specs.Prelude.{◌≡◌, IfOk};
+    ghost use Rattle.std.specs.Prelude.{◌≡◌, ◌<◌, length, slice_index, IfOk};
     ghost use Rattle.std.specs.Option.{option_map};
     ghost use Rattle.spv_blocks.specs.Blocks.{end_targets, last_opens};
     ghost use Rattle.spv_blocks.specs.Seen.{seen_block, seen_construct};
@@ -128,6 +167,21 @@ impl Block {
         ensures { option_map seen_construct result ≡ last_opens (seen_block self.now).end (seen_block self.now).body }
     {
         opened(&self.end, self.body.last()?)
+    }
+
+    /// How many labels its terminator names, with repetitions.
+    pub fn target_count(&self) -> usize
+        ensures { result ≡ length (end_targets (seen_block self.now).end) }
+    {
+        target_count_of(&self.end)
+    }
+
+    /// The k-th label that its terminator names, counted from 0.
+    pub fn target(&self, k: usize) -> u32
+        requires { k < length (end_targets (seen_block self.now).end) }
+        ensures { result ≡ slice_index (end_targets (seen_block self.now).end) k }
+    {
+        target_of(&self.end, k)
     }
 
     /// The labels that its terminator names, in order, with repetitions.

@@ -3,7 +3,7 @@ ghost use Rattle.spv_blocks.specs.Blocks.{Code};
 ghost use Rattle.spv_blocks.specs.Edges.{rows_of, targets_of, predecessors_of, AreBranches};
 
 use crate::labels::Labels;
-use graph::{Graph, distinct, reversed};
+use graph::{Graph, Places, distinct, reversed};
 use spv_base::NoMemory;
 use std::alloc::Global;
 
@@ -23,7 +23,7 @@ fn rows(alloc: Global, labels: &Labels) -> Result<Graph, NoMemory>
 {
     let mut rows = Graph::new(alloc);
     'each: for i in 0..labels.count() {
-        rows.push_row(&labels.row(alloc, i)?)?;
+        rows.push(Places::from_vec(labels.row(alloc, i)?))?;
     }
     Ok(rows)
 }

@@ -185,8 +185,12 @@ impl<'a> Labels<'a> {
         requires { i < length self.now }
         ensures { IfOk result (λ row. Some row.items ≡ option_map (row_of self.now) (slice_get self.now i)) }
     {
-        let labels = self.function.block(i).targets(alloc)?;
-        self.numbers(alloc, &labels)
+        let block = self.function.block(i);
+        let mut row = Vec::new(alloc);
+        'targets: for k in 0..block.target_count() {
+            row.push(self.number(block.target(k)))?;
+        }
+        Ok(row)
     }
 
     /// The numbers of labels, in order; a number past all blocks for each that is no label of the function.

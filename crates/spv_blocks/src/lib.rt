@@ -9,10 +9,11 @@ pub mod insts;
 pub mod labels;
 pub mod laws;
 mod parts;
-mod table;
+pub mod table;
 
 pub use block::{Block, Construct, End, Ins};
 pub use edges::Edges;
 pub use function::Function;
 pub use insts::{Insts, starts};
 pub use labels::Labels;
+pub use table::Table;

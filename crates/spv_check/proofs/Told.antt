@@ -1,11 +1,10 @@
 -- The blocks of a function in which no rule on structured control flow is broken, from what is told of them.
 use Rattle.std.proofs.Common.{◌≡◌, ℕ, ◌<◌, Bool, length, Option, Some, None, subst}
 use Rattle.std.proofs.Math.Path.{fun_ext}
-use Rattle.std.specs.BTreeMap.{get}
-use Rattle.std.specs.Ordering.{nat_cmp}
 use Rattle.std.specs.Prelude.{Result, Ok, Err, IfOk, IfErr}
 use Rattle.spv_base.specs.declared.fault.Refusal.{Refusal}
 use Rattle.spv_blocks.specs.Blocks.{Code}
+use Rattle.spv_blocks.specs.Tables.{found as found_in}
 use Rattle.spv_walk.specs.Contexts.{Context}
 use Rattle.spv_walk.specs.Rules.{Broken, IsFirst}
 use Rattle.spv_walk.specs.Walked.{AreEnterers, InPlaces, IsWalk}
@@ -36,12 +35,12 @@ module _ (is_pointer : ℕ → Bool) (f : Code) (enterer : ℕ → Option ℕ) (
 -- ---- by what the flow of a function answers
 
 pub flow_told : (is_pointer : ℕ → Bool) (f : Code) (found : Result Flow Refusal) (flow : Flow) → found ≡ Ok flow
-    → IfOk found (λ x. IsFirst (Broken is_pointer f) None) → IfOk found (λ x. AreEnterers f (λ l. get nat_cmp x.enterers l))
+    → IfOk found (λ x. IsFirst (Broken is_pointer f) None) → IfOk found (λ x. AreEnterers f (found_in x.enterers))
     → IfOk found (λ x. IsWalk f (InPlaces (context_of x.walked))) → IfOk found (λ x. AreToldLoops f)
-    → IsTold is_pointer f (get nat_cmp flow.enterers) (context_of flow.walked)
+    → IsTold is_pointer f (found_in flow.enterers) (context_of flow.walked)
 flow_told is_pointer f found flow is unbroken enterers walk loops = record {
   unbroken = subst (λ (r : Result Flow Refusal). IfOk r (λ x. IsFirst (Broken is_pointer f) None)) is unbroken;
-  enterers = subst (λ (r : Result Flow Refusal). IfOk r (λ x. AreEnterers f (λ l. get nat_cmp x.enterers l))) is enterers;
+  enterers = subst (λ (r : Result Flow Refusal). IfOk r (λ x. AreEnterers f (found_in x.enterers))) is enterers;
   walk = subst (λ (r : Result Flow Refusal). IfOk r (λ x. IsWalk f (InPlaces (context_of x.walked)))) is walk;
   loops = subst (λ (r : Result Flow Refusal). IfOk r (λ x. AreToldLoops f)) is loops;
 }

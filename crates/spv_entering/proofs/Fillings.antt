@@ -1,9 +1,9 @@
 -- How a table of tops grows.
 use Rattle.std.proofs.Common.{◌≡◌, ◌≢◌, ℕ, ◌+◌, ◌*◌, ◌<◌, ◌≤◌, ◌==◌, ◌&&◌, ◌||◌, Bool, true, false, cond, List, [], ◌∷◌, ◌++◌, length, Option, Some, None, ◌⊎◌, inl, inr, refl, sym, ap, subst, ◌∙◌, arith}
 use Rattle.std.specs.Global.{Vec}
-use Rattle.std.specs.BTreeMap.{BTreeMap, get}
+use Rattle.spv_blocks.specs.Tables.{found}
+use Rattle.spv_blocks.specs.declared.table.Table.{Table}
 use Rattle.std.specs.Option.{is_none, is_some, option_or}
-use Rattle.std.specs.Ordering.{nat_cmp}
 use Rattle.std.proofs.lemmas.Bool.Decides.{eqb_tells}
 use Rattle.std.proofs.lemmas.List.{length_push}
 use Rattle.spv_blocks.specs.Blocks.{Block, Code, Construct, block, branches, construct, goes, has, is_it, is_label, is_some_block}
@@ -273,7 +273,7 @@ module _ (flow : Flow) (old new : Filling) (t : ℕ) (going : IsGoing flow old) 
 -- ---- what was looked at is kept
 
 pub same-tops : (old new : Filling) → new.tops ≡ old.tops → (p : ℕ) → top_of new p ≡ top_of old p
-same-tops old new e p = ap (λ (m : BTreeMap ℕ ℕ). get nat_cmp m p) e
+same-tops old new e p = ap (λ (m : Table ℕ). found m p) e
 
 pub same-filling : (old new : Filling) → new.tops ≡ old.tops → new.waiting ≡ old.waiting → Same old new
 same-filling old new e g = record { tops = same-tops old new e; waiting = ap (λ (v : Vec ℕ). v.items) g }

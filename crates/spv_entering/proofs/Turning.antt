@@ -1,8 +1,8 @@
 -- How a table of tops begins, what the turn of a block does to it, and how it ends.
 use Rattle.std.proofs.Common.{◌≡◌, ◌≢◌, ℕ, ◌+◌, ◌*◌, ◌<◌, ◌≤◌, ◌==◌, ◌||◌, Bool, true, false, List, [], ◌∷◌, ◌++◌, length, get_or, Option, Some, None, ◌⊎◌, inl, inr, refl, sym, ap, subst, ◌∙◌, arith}
-use Rattle.std.specs.BTreeMap.{BTreeMap, get}
+use Rattle.spv_blocks.specs.Tables.{found}
+use Rattle.spv_blocks.specs.declared.table.Table.{Table}
 use Rattle.std.specs.Option.{is_some}
-use Rattle.std.specs.Ordering.{nat_cmp}
 use Rattle.std.proofs.lemmas.Bool.{cases_lt}
 use Rattle.std.proofs.lemmas.Bool.Decides.{eqb_tells}
 use Rattle.std.proofs.lemmas.List.{length_push}
@@ -103,6 +103,20 @@ begins-put flow old new h c going next role puts =
       begins = λ d n r. subst (λ (j : ℕ). In new h j) (some_is c d (sym next ∙ n)) (put-in flow old new h c going top puts);
     }
 
+-- a continue target that may not be walked to gets no top
+pub begins-none : (flow : Flow) (s : Filling) (h c : ℕ) → IsGoing flow s → next_of (construct flow.code h) ≡ Some c → is_role flow.code h c ≡ false → Begins flow s s h
+begins-none flow s h c going next role = record {
+  growing = grows-none flow s going;
+  begins = λ d n r. absurd (apart (is_role flow.code h c) (subst (λ (j : ℕ). is_role flow.code h j ≡ true) (some_is d c (sym n ∙ next)) r) role);
+}
+
+-- a block without a top gives none
+pub passes-none : (flow : Flow) (s : Filling) (b m : ℕ) → IsGoing flow s → top_of s b ≡ None → Passes flow s s b m
+passes-none flow s b m going none = record {
+  growing = grows-none flow s going;
+  past = λ h i runs r. let some : None ≡ Some h = sym none ∙ i in cc;
+}
+
 -- the first blocks have given their continue targets
 pub record AreBegun (flow : Flow) (s : Filling) (n : ℕ) : Type 0 where
   pub going : IsGoing flow s
@@ -173,7 +187,7 @@ table-begins flow s starts = record { going = starts.going; table = tops_begin f
 pub taken-going : (flow : Flow) (old new : Filling) → IsGoing flow old → new.tops ≡ old.tops → ((t : ℕ) → passed_of new t ≡ passed_of old t) → IsGoing flow new
 taken-going flow old new going tops passed = record {
   sound = λ h b i. going.sound h b (sym (same-tops old new tops b) ∙ i);
-  passed = λ t. subst (λ (q : Passed). IsPassed flow (top_of new) t q) (sym (passed t)) (subst (λ (m : BTreeMap ℕ ℕ). IsPassed flow (λ b. get nat_cmp m b) t (passed_of old t)) (sym tops) (going.passed t));
+  passed = λ t. subst (λ (q : Passed). IsPassed flow (top_of new) t q) (sym (passed t)) (subst (λ (m : Table ℕ). IsPassed flow (λ b. found m b) t (passed_of old t)) (sym tops) (going.passed t));
 }
 
 done_cases : (xs : List ℕ) (b p : ℕ) → has xs p ≡ false → (has (xs ++ b ∷ []) p ≡ false) ⊎ (p ≡ b)

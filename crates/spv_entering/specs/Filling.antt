@@ -1,8 +1,7 @@
 -- A table of tops that is being filled.
 use Rattle.std.specs.Prelude.{◌≡◌, ◌≢◌, ◌⊎◌, ℕ, ◌+◌, ◌*◌, ◌<◌, ◌≤◌, ◌==◌, Bool, true, false, not, cond, ◌&&◌, List, [], ◌∷◌, ◌++◌, length, slice_index, Option, Some, None, is_none}
-use Rattle.std.specs.BTreeMap.{get}
+use Rattle.spv_blocks.specs.Tables.{found}
 use Rattle.std.specs.Option.{option_or, unwrap_or}
-use Rattle.std.specs.Ordering.{nat_cmp}
 use Rattle.spv_blocks.specs.Blocks.{Code, branches, construct, merge_of, next_of, is_role, stops, has}
 use Rattle.spv_walk.specs.Walk.{Top}
 use Rattle.spv_walk.specs.Tables.{GoesAlong, InTops, is_back_by}
@@ -12,14 +11,14 @@ use Rattle.spv_entering.specs.declared.filling.Passed.{Passed}
 
 -- the table so far
 abbrev pub top_of : Filling → ℕ → Option ℕ
-top_of s b = get nat_cmp s.tops b
+top_of s b = found s.tops b
 
 abbrev pub passed_none : Passed
 passed_none = record { count = 0; left = None }
 
 -- how far the blocks before t were looked at
 abbrev pub passed_of : Filling → (t : ℕ) → Passed
-passed_of s t = unwrap_or (get nat_cmp s.passed t) passed_none
+passed_of s t = unwrap_or (found s.passed t) passed_none
 
 -- of the first blocks before t each is a back edge of t by the table, or it is the one that was left
 pub record IsPassed (flow : Flow) (top : ℕ → Option ℕ) (t : ℕ) (passed : Passed) : Type 0 where

@@ -1,6 +1,5 @@
 ghost use Rattle.std.specs.Prelude.{◌≡◌, ◌==◌, not, map, filter, IfOk, OnOk, MatchBool, true, ℕ};
-ghost use Rattle.std.specs.BTreeMap.{get};
-ghost use Rattle.std.specs.Ordering.{nat_cmp};
+ghost use Rattle.spv_blocks.specs.Tables.{found};
 ghost use Rattle.spv_blocks.specs.Blocks.{has, branches, construct, is_switch as is_switch_in, targets};
 ghost use Rattle.spv_blocks.specs.Places.{is_free};
 ghost use Rattle.spv_walk.specs.Tables.{is_back_by};
@@ -12,16 +11,15 @@ ghost use Rattle.spv_entering.specs.Steps.{AreSteps};
 use crate::flow::Flow;
 use graph::{Graph, is_marked, reach_all};
 use spv_base::NoMemory;
-use spv_blocks::{Construct, Labels};
+use spv_blocks::{Construct, Labels, Table};
 use std::alloc::Global;
-use std::collections::BTreeMap;
 
 /// What is known of a function before its labels are looked at one by one.
 #[derive(Drop)]
 pub(crate) struct Known<'t, 'a, 'f> {
     pub(crate) flow: Flow<'a, 'f>,
     /// The loop at the top of whose continue part each block stands.
-    pub(crate) tops: &'t BTreeMap<u32, u32>,
+    pub(crate) tops: &'t Table<u32>,
     /// The steps from block to block.
     pub(crate) steps: Graph,
 }
@@ -84,11 +82,11 @@ fn staying(
 fn no_back(
     alloc: Global,
     flow: &Flow,
-    tops: &BTreeMap<u32, u32>,
+    tops: &Table<u32>,
     t: u32,
     blocks: &[u32],
 ) -> Result<Vec<u32>, NoMemory>
-    ensures { IfOk result (λ left. left.items ≡ filter (λ p. not (is_back_by flow.now.code (get nat_cmp tops.now) t p)) blocks.now) }
+    ensures { IfOk result (λ left. left.items ≡ filter (λ p. not (is_back_by flow.now.code (found tops.now) t p)) blocks.now) }
 {
     let mut left = Vec::new(alloc);
     'each: for p in blocks {
@@ -111,8 +109,7 @@ fn is_switch(labels: &Labels, s: u32) -> bool
 
 impl<'t, 'a, 'f> Known<'t, 'a, 'f> {
     ghost use Rattle.std.specs.Prelude.{◌≡◌, not, filter, IfOk, OnOk, true, ℕ};
-    ghost use Rattle.std.specs.BTreeMap.{get};
-    ghost use Rattle.std.specs.Ordering.{nat_cmp};
+    ghost use Rattle.spv_blocks.specs.Tables.{found};
     ghost use Rattle.spv_blocks.specs.Blocks.{has, branches, construct, is_switch as is_switch_in};
     ghost use Rattle.spv_blocks.specs.Places.{is_free};
     ghost use Rattle.spv_walk.specs.Tables.{is_back_by};
@@ -123,7 +120,7 @@ impl<'t, 'a, 'f> Known<'t, 'a, 'f> {
 
     /// The blocks before a label, but for its back edges.
     fn left(&self, alloc: Global, t: u32) -> Result<Vec<u32>, NoMemory>
-        ensures { IfOk result (λ left. left.items ≡ filter (λ p. not (is_back_by self.now.flow.code (get nat_cmp self.now.tops.now) t p)) (before self.now.flow t)) }
+        ensures { IfOk result (λ left. left.items ≡ filter (λ p. not (is_back_by self.now.flow.code (found self.now.tops.now) t p)) (before self.now.flow t)) }
     {
         no_back(alloc, &self.flow, self.tops, t, self.flow.before(t))
     }
@@ -159,7 +156,7 @@ impl<'t, 'a, 'f> Known<'t, 'a, 'f> {
     /// The block from which a label may be entered.
     pub(crate) fn enterer(&self, alloc: Global, t: u32) -> Result<Option<u32>, NoMemory>
         requires steps { AreSteps self.now.flow.code self.now.steps }
-        requires tops { AreTops self.now.flow.code (get nat_cmp self.now.tops.now) }
+        requires tops { AreTops self.now.flow.code (found self.now.tops.now) }
         ensures { IfOk result (λ enterer. FindsEnterer self.now.flow.code t enterer) }
     {
         if !self.flow.labels().is_free(t) {

@@ -4,9 +4,8 @@ ghost use Rattle.spv_blocks.specs.Seen.{seen_construct};
 
 use crate::flow::Flow;
 use spv_base::NoMemory;
-use spv_blocks::Construct;
+use spv_blocks::{Construct, Table};
 use std::alloc::Global;
-use std::collections::BTreeMap;
 
 /// How far the blocks before a label were looked at.
 #[derive(Clone, Copy)]
@@ -20,9 +19,9 @@ pub struct Passed {
 /// A table of tops that is being filled. Each block gets its top at most once and then waits for its turn.
 #[derive(Drop)]
 pub struct Filling {
-    tops: BTreeMap<u32, u32>,
+    tops: Table<u32>,
     waiting: Vec<u32>,
-    passed: BTreeMap<u32, Passed>,
+    passed: Table<Passed>,
 }
 
 /// The merge block of a construct.
@@ -36,8 +35,7 @@ fn merge_of(construct: Construct) -> u32
 
 impl Filling {
     ghost use Rattle.std.specs.Prelude.{◌≡◌, ◌<◌, ◌==◌, ◌++◌, ◌∷◌, [], ℕ, true, false, cond, length, Some, None, OnOk, IfOk, MatchOption};
-    ghost use Rattle.std.specs.BTreeMap.{get};
-    ghost use Rattle.std.specs.Ordering.{nat_cmp};
+    ghost use Rattle.spv_blocks.specs.Tables.{found};
     ghost use Rattle.spv_blocks.specs.Blocks.{is_label, merge_of};
     ghost use Rattle.spv_blocks.specs.Blocks.{construct};
     ghost use Rattle.spv_walk.specs.Tables.{is_back_by};
@@ -45,31 +43,31 @@ impl Filling {
     ghost use Rattle.spv_entering.specs.Filling.{top_of, passed_of, passed_none, is_second as is_second_in, IsPassed, HasTwo, FindsLone, IsGoing, Puts, Begins, Looks, Goes, Passes, Turns, AlongTo};
 
     /// The table with no tops.
-    pub fn new(alloc: Global) -> Filling
-        ensures tops { (b : ℕ) → top_of result b ≡ None }
-        ensures waiting { result.waiting.items ≡ [] }
-        ensures passed { (t : ℕ) → passed_of result t ≡ passed_none }
+    pub fn over(alloc: Global, flow: &Flow) -> Result<Filling, NoMemory>
+        ensures tops { IfOk result (λ filling. (b : ℕ) → top_of filling b ≡ None) }
+        ensures waiting { IfOk result (λ filling. filling.waiting.items ≡ []) }
+        ensures passed { IfOk result (λ filling. (t : ℕ) → passed_of filling t ≡ passed_none) }
     {
-        Filling {
-            tops: BTreeMap::new(alloc),
+        Ok(Filling {
+            tops: Table::beside(alloc, flow.labels())?,
             waiting: Vec::new(alloc),
-            passed: BTreeMap::new(alloc),
-        }
+            passed: Table::beside(alloc, flow.labels())?,
+        })
     }
 
     /// The loop at whose top a block stands, as far as is known.
     fn top(&self, label: u32) -> Option<u32>
         ensures { result ≡ top_of self.now label }
     {
-        self.tops.get(&label).copied()
+        self.tops.get(label)
     }
 
     /// How far the blocks before a label were looked at.
     fn passed(&self, t: u32) -> Passed
         ensures { result ≡ passed_of self.now t }
     {
-        match self.passed.get(&t) {
-            Some(passed) => *passed,
+        match self.passed.get(t) {
+            Some(passed) => passed,
             None => Passed {
                 count: 0,
                 left: None,
@@ -83,16 +81,15 @@ impl Filling {
         ensures waiting { self.new.waiting ≡ self.old.waiting }
         ensures passed { OnOk result ((p : ℕ) → passed_of self.new p ≡ cond (t == p) passed (passed_of self.old p)) }
     {
-        self.passed.insert(t, passed).map_err(|_| NoMemory)?;
-        Ok(())
+        self.passed.put(t, passed)
     }
 
     /// Puts a block at the top of a loop, unless it stands at one.
     fn put(&mut self, h: u32, t: u32) -> Result<(), NoMemory>
         ensures { OnOk result (Puts self.old self.new h t) }
     {
-        if !self.tops.contains_key(&t) {
-            self.tops.insert(t, h).map_err(|_| NoMemory)?;
+        if self.tops.get(t).is_none() {
+            self.tops.put(t, h)?;
             self.waiting.push(t)?;
         }
         Ok(())
@@ -108,7 +105,7 @@ impl Filling {
     }
 
     /// The table.
-    pub fn into_tops(self) -> BTreeMap<u32, u32>
+    pub fn into_tops(self) -> Table<u32>
         ensures { result ≡ self.tops }
     {
         let Filling {

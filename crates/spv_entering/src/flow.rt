@@ -2,15 +2,13 @@ ghost use Rattle.std.specs.Prelude.{◌≡◌, ℕ, IfOk, true};
 ghost use Rattle.spv_blocks.specs.Blocks.{is_it, has, branches, is_label, targets as targets_in};
 ghost use Rattle.spv_blocks.specs.Edges.{predecessors_of};
 ghost use Rattle.spv_blocks.specs.Places.{place as place_in};
-ghost use Rattle.std.specs.BTreeMap.{get};
-ghost use Rattle.std.specs.Ordering.{nat_cmp};
+ghost use Rattle.spv_blocks.specs.Tables.{found};
 ghost use Rattle.spv_walk.specs.Tables.{is_back_by};
 ghost use Rattle.spv_entering.specs.Flow.{AreLabelsAt, IsFlow, before as before_in};
 
 use spv_base::NoMemory;
-use spv_blocks::{Edges, Labels};
+use spv_blocks::{Edges, Labels, Table};
 use std::alloc::Global;
-use std::collections::BTreeMap;
 use std::marker::Model;
 
 /// A list of labels.
@@ -142,11 +140,11 @@ impl<'a, 'f> Flow<'a, 'f> {
     }
 
     /// Whether a branch from q to t is a back edge of the loop t, by a table of tops.
-    pub fn is_back(&self, tops: &BTreeMap<u32, u32>, t: u32, q: u32) -> bool
-        ensures { result ≡ is_back_by self.now.code (get nat_cmp tops.now) t q }
+    pub fn is_back(&self, tops: &Table<u32>, t: u32, q: u32) -> bool
+        ensures { result ≡ is_back_by self.now.code (found tops.now) t q }
     {
-        match tops.get(&q) {
-            Some(h) => *h == t && self.labels.construct(q).is_none(),
+        match tops.get(q) {
+            Some(h) => h == t && self.labels.construct(q).is_none(),
             None => false,
         }
     }

@@ -6,7 +6,7 @@ ghost use Rattle.std.specs.Option.{option_map};
 ghost use Rattle.spv_entering.specs.Steps.{role_of, onward as onward_in, steps_from, label_of, AreSteps};
 
 use crate::flow::Flow;
-use graph::Graph;
+use graph::{Graph, Places};
 use spv_base::NoMemory;
 use spv_blocks::{Construct, Labels};
 use std::alloc::Global;
@@ -96,7 +96,7 @@ pub(crate) fn steps(alloc: Global, flow: &Flow) -> Result<Graph, NoMemory>
 {
     let mut rows = Graph::new(alloc);
     'each: for i in 0..flow.labels().count() {
-        rows.push_row(&row(alloc, flow, i)?)?;
+        rows.push(Places::from_vec(row(alloc, flow, i)?))?;
     }
     Ok(rows)
 }

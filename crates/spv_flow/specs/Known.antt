@@ -1,10 +1,10 @@
 -- The tables of one function, from which its broken rules are read.
 use Rattle.std.specs.Prelude.{◌≡◌, ℕ, Bool, Option}
-use Rattle.std.specs.BTreeMap.{get}
 use Rattle.std.specs.BTreeSet.{contains}
 use Rattle.std.specs.Ordering.{nat_cmp}
 use Rattle.spv_blocks.specs.Blocks.{Code}
 use Rattle.spv_blocks.specs.Edges.{predecessors_of}
+use Rattle.spv_blocks.specs.Tables.{found}
 use Rattle.spv_walk.specs.Contexts.{Context}
 use Rattle.spv_walk.specs.Found.{FaultTables, block_faults}
 use Rattle.spv_walk.specs.Numbering.{HasOwnLabels}
@@ -22,7 +22,7 @@ code_of known = known.function.now
 
 -- the block from which a label is entered
 abbrev pub enterer_of : Known → ℕ → Option ℕ
-enterer_of known = get nat_cmp known.enterers
+enterer_of known = found known.enterers
 
 -- whether the continue part of a header ends in one back edge
 abbrev pub ends_of : Known → ℕ → Bool
@@ -45,7 +45,7 @@ pub record AreTables (known : Known) : Type 0 where
   pub own : HasOwnLabels known.function.now
   pub same : known.labels.now ≡ known.function.now
   pub edges : known.edges.predecessors ≡ predecessors_of known.function.now
-  pub tables : FaultTables known.function.now (get nat_cmp known.enterers) (has_one known.loops) (InPlaces (context_of known.walked))
+  pub tables : FaultTables known.function.now (found known.enterers) (has_one known.loops) (InPlaces (context_of known.walked))
 
 -- of each header it is told whether its continue part ends in exactly one back edge
 pub record AreToldLoops (f : Code) : Type 0 where

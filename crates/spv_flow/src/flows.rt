@@ -6,22 +6,22 @@ ghost use Rattle.spv_walk.specs.Rules.{Broken, IsFirst};
 
 use crate::known::Known;
 use spv_base::{NoMemory, Refusal};
-use spv_blocks::{Function, Labels};
+use spv_blocks::{Function, Labels, Table};
 use spv_walking::Walked;
 use std::alloc::Global;
-use std::collections::{BTreeMap, BTreeSet};
+use std::collections::BTreeSet;
 
 /// The tables of a function that breaks no rule on structured control flow.
 #[derive(Drop)]
 pub struct Flow {
     /// The block from which each label may be entered.
-    enterers: BTreeMap<u32, u32>,
+    enterers: Table<u32>,
     walked: Walked,
 }
 
 impl Flow {
     ghost use Rattle.std.specs.Prelude.{◌≡◌, None, Some, IfOk, IfErr};
-    ghost use Rattle.std.specs.BTreeMap.{get};
+    ghost use Rattle.spv_blocks.specs.Tables.{found as found_in};
     ghost use Rattle.std.specs.BTreeSet.{contains};
     ghost use Rattle.std.specs.Ordering.{nat_cmp};
     ghost use Rattle.spv_walk.specs.Numbering.{HasOwnLabels};
@@ -43,7 +43,7 @@ impl Flow {
         requires same { labels.now ≡ function.now }
         ensures refused { IfOk result (λ found. IfErr found (λ refusal. IsFirst (Broken (contains nat_cmp pointers.now) function.now) (Some refusal))) }
         ensures clean { IfOk result (λ found. IfOk found (λ flow. IsFirst (Broken (contains nat_cmp pointers.now) function.now) None)) }
-        ensures enterers { IfOk result (λ found. IfOk found (λ flow. AreEnterers function.now (λ label. get nat_cmp flow.enterers label))) }
+        ensures enterers { IfOk result (λ found. IfOk found (λ flow. AreEnterers function.now (found_in flow.enterers))) }
         ensures walk { IfOk result (λ found. IfOk found (λ flow. IsWalk function.now (InPlaces (context_of flow.walked)))) }
         ensures loops { IfOk result (λ found. IfOk found (λ flow. AreToldLoops function.now)) }
     {
@@ -62,7 +62,7 @@ impl Flow {
     }
 
     /// The block from which each label may be entered, by the label: the label of that block.
-    pub fn enterers(&self) -> &BTreeMap<u32, u32>
+    pub fn enterers(&self) -> &Table<u32>
         ensures { result.now ≡ self.now.enterers }
     {
         &self.enterers

@@ -3,11 +3,11 @@ ghost use Rattle.spv_walk.specs.Numbering.{HasOwnLabels};
 ghost use Rattle.spv_flow.specs.Known.{AreTables};
 
 use spv_base::NoMemory;
-use spv_blocks::{Edges, Function, Labels};
+use spv_blocks::{Edges, Function, Labels, Table};
 use spv_entering::{enterers, tops};
 use spv_walking::{BackEdges, Walked, walk};
 use std::alloc::Global;
-use std::collections::{BTreeMap, BTreeSet};
+use std::collections::BTreeSet;
 
 /// A function with all tables from which its broken rules are read.
 #[derive(Drop)]
@@ -18,7 +18,7 @@ pub(crate) struct Known<'k, 'f> {
     pub(crate) labels: &'k Labels<'f>,
     pub(crate) edges: Edges,
     /// The block from which each label may be entered.
-    pub(crate) enterers: BTreeMap<u32, u32>,
+    pub(crate) enterers: Table<u32>,
     pub(crate) walked: Walked,
     /// The blocks that end loops with their back edges.
     pub(crate) loops: BackEdges,

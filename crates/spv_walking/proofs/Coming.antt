@@ -3,10 +3,10 @@ use Rattle.std.proofs.Common.{◌≡◌, ◌⊎◌, inl, inr, ℕ, ◌+◌, ◌<
 use Rattle.std.proofs.lemmas.Bool.{false≢true}
 use Rattle.std.proofs.lemmas.List.{append-nil, length_push}
 use Rattle.std.proofs.lemmas.List.Folds.{list_any-append}
-use Rattle.std.specs.BTreeMap.{BTreeMap, get}
+use Rattle.spv_blocks.specs.Tables.{found}
+use Rattle.spv_blocks.specs.declared.table.Table.{Table}
 use Rattle.std.specs.List.{count_by}
 use Rattle.std.specs.Option.{option_map, option_or, is_some, is_none}
-use Rattle.std.specs.Ordering.{nat_cmp}
 use Rattle.spv_blocks.specs.Blocks.{Code, Block, has, is_label}
 use Rattle.spv_walk.specs.Contexts.{Context}
 use Rattle.spv_walk.specs.Walked.{HasSome, InPlaces}
@@ -40,9 +40,9 @@ same_at rows added (Some k) h = ap (λ (c : Context). Some c) (context_stays row
 
 pub context_same : (w w2 : Walked) (added : List Context) (p : ℕ) → w2.rows ≡ w.rows ++ added → w2.places ≡ w.places → context_of w2 p ≡ context_of w p
 context_same w w2 added p e q =
-    ap (λ (rows : List Context). option_map (context_at rows) (get nat_cmp w2.places p)) e
-    ∙ ap (λ (m : BTreeMap ℕ ℕ). option_map (context_at (w.rows ++ added)) (get nat_cmp m p)) q
-    ∙ same_at w.rows added (get nat_cmp w.places p) (λ k. w.within p k)
+    ap (λ (rows : List Context). option_map (context_at rows) (found w2.places p)) e
+    ∙ ap (λ (m : Table ℕ). option_map (context_at (w.rows ++ added)) (found m p)) q
+    ∙ same_at w.rows added (found w.places p) (λ k. w.within p k)
 
 -- where no block is come to
 pub comes_to_none : (f : Code) (g h : Going) (added : List Context) (New : ℕ → Context → Type 0) → h.walked.rows ≡ g.walked.rows ++ added → h.walked.places ≡ g.walked.places
@@ -58,8 +58,8 @@ comes_to_none f g h added New rows places waiting none =
       placed = λ p c n. absurd (none p c n);
       less = λ l.
           (let left : work f h ≡ work f g =
-          ap (λ (m : BTreeMap ℕ ℕ). count_by (λ b. is_none (get nat_cmp m b.label)) f + length h.waiting.items) places
-          ∙ ap (λ (ws : List ℕ). count_by (λ b. is_none (get nat_cmp g.walked.places b.label)) f + length ws) waiting in
+          ap (λ (m : Table ℕ). count_by (λ b. is_none (found m b.label)) f + length h.waiting.items) places
+          ∙ ap (λ (ws : List ℕ). count_by (λ b. is_none (found g.walked.places b.label)) f + length ws) waiting in
           omega arith);
     }
 
@@ -110,42 +110,42 @@ waiting_more true ws label = omega arith
 waiting_more false ws label = length_push ws label
 
 module _ (f : Code) (g h : Going) (label place : ℕ) (v : Visits g h label place) where
-  narrows : (b : Block) → is_none (get nat_cmp h.walked.places b.label) ≡ true → is_none (get nat_cmp g.walked.places b.label) ≡ true
-  narrows b e = none_before (get nat_cmp g.walked.places b.label) (cond (label == b.label) (Some place) None) (ap (λ (o : Option ℕ). is_none o) (sym (v.places.at b.label)) ∙ e)
+  narrows : (b : Block) → is_none (found h.walked.places b.label) ≡ true → is_none (found g.walked.places b.label) ≡ true
+  narrows b e = none_before (found g.walked.places b.label) (cond (label == b.label) (Some place) None) (ap (λ (o : Option ℕ). is_none o) (sym (v.places.at b.label)) ∙ e)
 
-  waiting_length : (b : Bool) → is_some (get nat_cmp g.walked.places label) ≡ b → length h.waiting.items ≡ length g.waiting.items + cond b 0 1
+  waiting_length : (b : Bool) → is_some (found g.walked.places label) ≡ b → length h.waiting.items ≡ length g.waiting.items + cond b 0 1
   waiting_length b e =
-      ap length v.waiting ∙ waiting_more (is_some (get nat_cmp g.walked.places label)) g.waiting.items label ∙ ap (λ (t : Bool). length g.waiting.items + cond t 0 1) e
+      ap length v.waiting ∙ waiting_more (is_some (found g.walked.places label)) g.waiting.items label ∙ ap (λ (t : Bool). length g.waiting.items + cond t 0 1) e
 
   less_left : is_label f label ≡ true → work f h ≤ work f g
   less_left l =
-      elim (option_cases (get nat_cmp g.walked.places label)) [
+      elim (option_cases (found g.walked.places label)) [
         | inl e ↦
-            (let n : count_by (λ b. is_none (get nat_cmp h.walked.places b.label)) f + 1 ≤ count_by (λ b. is_none (get nat_cmp g.walked.places b.label)) f =
-            count_less (λ b. is_none (get nat_cmp g.walked.places b.label)) (λ b. is_none (get nat_cmp h.walked.places b.label)) narrows f label l (λ b s. (
-              ap (λ (o : Option ℕ). is_none o) (ap (get nat_cmp g.walked.places) s ∙ e),
+            (let n : count_by (λ b. is_none (found h.walked.places b.label)) f + 1 ≤ count_by (λ b. is_none (found g.walked.places b.label)) f =
+            count_less (λ b. is_none (found g.walked.places b.label)) (λ b. is_none (found h.walked.places b.label)) narrows f label l (λ b s. (
+              ap (λ (o : Option ℕ). is_none o) (ap (found g.walked.places) s ∙ e),
               ap (λ (o : Option ℕ). is_none o) (v.places.at b.label)
-                  ∙ some_now (get nat_cmp g.walked.places b.label) (label == b.label) place (true_equal label b.label (sym s)),
+                  ∙ some_now (found g.walked.places b.label) (label == b.label) place (true_equal label b.label (sym s)),
             )) in
             let w = waiting_length false (ap (λ (o : Option ℕ). is_some o) e) in
             omega arith)
         | inr e ↦
-            (let n = count_le (λ b. is_none (get nat_cmp g.walked.places b.label)) (λ b. is_none (get nat_cmp h.walked.places b.label)) narrows f in
+            (let n = count_le (λ b. is_none (found g.walked.places b.label)) (λ b. is_none (found h.walked.places b.label)) narrows f in
             let w = waiting_length true (ap (λ (o : Option ℕ). is_some o) e.1) in
             omega arith)
       ]
 
   came : (p : ℕ) (c : Context) → context_of h.walked p ≡ Some c
-      → (context_of g.walked p ≡ Some c) ⊎ ((get nat_cmp g.walked.places p ≡ None) × (p ≡ label) × (c ≡ context_at g.walked.rows place))
+      → (context_of g.walked p ≡ Some c) ⊎ ((found g.walked.places p ≡ None) × (p ≡ label) × (c ≡ context_at g.walked.rows place))
   came p c i =
-      let m = map_some (context_at h.walked.rows) (get nat_cmp h.walked.places p) c i in
+      let m = map_some (context_at h.walked.rows) (found h.walked.places p) c i in
       let at : context_at g.walked.rows m.0 ≡ c = ap (λ (rows : List Context). context_at rows m.0) (sym v.rows) ∙ m.2 in
-      elim (added_place (get nat_cmp g.walked.places p) (label == p) place m.0 (sym (v.places.at p) ∙ m.1)) [
-        | inl e ↦ inl (some_map (context_at g.walked.rows) (get nat_cmp g.walked.places p) m.0 c e at)
+      elim (added_place (found g.walked.places p) (label == p) place m.0 (sym (v.places.at p) ∙ m.1)) [
+        | inl e ↦ inl (some_map (context_at g.walked.rows) (found g.walked.places p) m.0 c e at)
         | inr e ↦ inr (e.0, sym (equal_true label p e.1), sym at ∙ ap (context_at g.walked.rows) (sym e.2))
       ]
 
-  waits_on : (p : ℕ) → is_done h p ≡ true → has (cond (is_some (get nat_cmp g.walked.places label)) g.waiting.items (g.waiting.items ++ label ∷ [])) p ≡ false
+  waits_on : (p : ℕ) → is_done h p ≡ true → has (cond (is_some (found g.walked.places label)) g.waiting.items (g.waiting.items ++ label ∷ [])) p ≡ false
   waits_on p d = ap (λ (ws : List ℕ). has ws p) (sym v.waiting) ∙ not_true (has h.waiting.items p) d
 
   pub visited : (New : ℕ → Context → Type 0) → ((p : ℕ) (c : Context) → New p c → p ≡ label) → New label (context_at g.walked.rows place) → Comes f g h New
@@ -153,9 +153,9 @@ module _ (f : Code) (g h : Going) (label place : ℕ) (v : Visits g h label plac
     added = [];
     rows = v.rows ∙ sym (append-nil g.walked.rows);
     grows = λ p c i.
-        (let m = map_some (context_at g.walked.rows) (get nat_cmp g.walked.places p) c i in
-        some_map (context_at h.walked.rows) (get nat_cmp h.walked.places p) m.0 c
-        (v.places.at p ∙ kept_place (get nat_cmp g.walked.places p) (cond (label == p) (Some place) None) m.0 m.1)
+        (let m = map_some (context_at g.walked.rows) (found g.walked.places p) c i in
+        some_map (context_at h.walked.rows) (found h.walked.places p) m.0 c
+        (v.places.at p ∙ kept_place (found g.walked.places p) (cond (label == p) (Some place) None) m.0 m.1)
         (ap (λ (rows : List Context). context_at rows m.0) v.rows ∙ m.2));
     more = λ p c i.
         elim (came p c i) [
@@ -164,13 +164,13 @@ module _ (f : Code) (g h : Going) (label place : ℕ) (v : Visits g h label plac
         ];
     waits = λ p c i d.
         elim (came p c i) [
-          | inl o ↦ (o, not_false (has g.waiting.items p) (waited (is_some (get nat_cmp g.walked.places label)) g.waiting.items label p (waits_on p d)))
+          | inl o ↦ (o, not_false (has g.waiting.items p) (waited (is_some (found g.walked.places label)) g.waiting.items label p (waits_on p d)))
           | inr o ↦
               absurd (false≢true (sym (waits_on label (subst (λ (q : ℕ). is_done h q ≡ true) o.1 d))
-              ∙ waits_now (is_some (get nat_cmp g.walked.places label)) g.waiting.items label (ap (λ (x : Option ℕ). is_some x) (ap (get nat_cmp g.walked.places) (sym o.1) ∙ o.0))))
+              ∙ waits_now (is_some (found g.walked.places label)) g.waiting.items label (ap (λ (x : Option ℕ). is_some x) (ap (found g.walked.places) (sym o.1) ∙ o.0))))
         ];
     placed = λ p c n.
-        (let s = some_place (get nat_cmp g.walked.places label) (label == label) place (true_equal label label refl) in
+        (let s = some_place (found g.walked.places label) (label == label) place (true_equal label label refl) in
         subst (HasSome (InPlaces (context_of h.walked))) (sym (one p c n))
         (context_at h.walked.rows s.0, ap (option_map (context_at h.walked.rows)) (v.places.at label ∙ s.1)));
     less = λ l. less_left (l label (context_at g.walked.rows place) there);

@@ -1,9 +1,8 @@
 -- The blocks that end loops, block after block, and that they are the back edges of the walk.
 use Rattle.std.proofs.Common.{◌≡◌, ◌≢◌, ◌⊎◌, inl, inr, ℕ, ◌+◌, ◌≤◌, ◌==◌, ◌&&◌, Bool, true, false, cond, [], ◌∷◌, length, take, slice_get, Option, Some, None, refl, sym, ap, subst, ◌∙◌}
 use Rattle.std.proofs.lemmas.Bool.{false≢true}
-use Rattle.std.specs.BTreeMap.{get}
+use Rattle.spv_blocks.specs.Tables.{found}
 use Rattle.std.specs.Option.{is_none}
-use Rattle.std.specs.Ordering.{nat_cmp}
 use Rattle.spv_blocks.specs.Blocks.{Code, Block, Construct, branches, construct, is_it}
 use Rattle.spv_walk.specs.Contexts.{InSelection, InArm, InBody, InNext, Context}
 use Rattle.spv_walk.specs.Walk.{BackEdge, OneBackEdge}
@@ -49,13 +48,13 @@ abbrev pub EndsLoop : (f : Code) (place : ℕ → Option Context) (looked : ℕ 
 EndsLoop f place looked h b = (looked b ≡ true) × (edge_of f b (place b) ≡ Some h)
 
 abbrev pub HasEnds : (f : Code) (place : ℕ → Option Context) (looked : ℕ → Bool) → BackEdges → Type 0
-HasEnds f place looked edges = (h : ℕ) → IsOf (EndsLoop f place looked h) (get nat_cmp edges.blocks h)
+HasEnds f place looked edges = (h : ℕ) → IsOf (EndsLoop f place looked h) (found edges.blocks h)
 
 not_it : (o : Option ℕ) (h : ℕ) → is_it h o ≡ false → o ≡ Some h → ⊥
 not_it o h n e = false≢true (sym n ∙ equal_is_it h o e)
 
 module _ (f : Code) (place : ℕ → Option Context) where
-  pub ends_none : (edges : BackEdges) → ((h : ℕ) → get nat_cmp edges.blocks h ≡ None) → HasEnds f place (λ l. labelled (take 0 f) l) edges
+  pub ends_none : (edges : BackEdges) → ((h : ℕ) → found edges.blocks h ≡ None) → HasEnds f place (λ l. labelled (take 0 f) l) edges
   ends_none edges none h = subst (IsOf (EndsLoop f place (λ l. labelled (take 0 f) l) h)) (sym (none h)) (λ b p. nothing f b p.0)
     where
       nothing : (f : Code) (b : ℕ) → labelled (take 0 f) b ≡ true → ⊥
@@ -81,18 +80,18 @@ module _ (f : Code) (place : ℕ → Option Context) where
         | inr q ↦ inr (sym (equal_true x.label b q))
       ]
 
-      go : (t : Bool) → is_it h (edge_of f x.label (place x.label)) ≡ t → IsOf (EndsLoop f place (λ l. labelled (take (k + 1) f) l) h) (get nat_cmp new.blocks h)
+      go : (t : Bool) → is_it h (edge_of f x.label (place x.label)) ≡ t → IsOf (EndsLoop f place (λ l. labelled (take (k + 1) f) l) h) (found new.blocks h)
       go true y =
           let it = is_it_equal h (edge_of f x.label (place x.label)) y in
           subst (IsOf (EndsLoop f place (λ l. labelled (take (k + 1) f) l) h))
-          (sym (a.at h ∙ ap (λ z. cond z (Some (joined (get nat_cmp old.blocks h) x.label)) (get nat_cmp old.blocks h)) y))
-          (more_of (EndsLoop f place (λ l. labelled (take k f) l) h) (EndsLoop f place (λ l. labelled (take (k + 1) f) l) h) on (get nat_cmp old.blocks h) x.label back
+          (sym (a.at h ∙ ap (λ z. cond z (Some (joined (found old.blocks h) x.label)) (found old.blocks h)) y))
+          (more_of (EndsLoop f place (λ l. labelled (take k f) l) h) (EndsLoop f place (λ l. labelled (take (k + 1) f) l) h) on (found old.blocks h) x.label back
           (labelled_more f k x x.label e ∙ right_holds (labelled (take k f) x.label) (x.label == x.label) (true_equal x.label x.label refl), it)
           (i h))
       go false y =
           subst (IsOf (EndsLoop f place (λ l. labelled (take (k + 1) f) l) h))
-          (sym (a.at h ∙ ap (λ z. cond z (Some (joined (get nat_cmp old.blocks h) x.label)) (get nat_cmp old.blocks h)) y))
-          (same_of (EndsLoop f place (λ l. labelled (take k f) l) h) (EndsLoop f place (λ l. labelled (take (k + 1) f) l) h) on (get nat_cmp old.blocks h)
+          (sym (a.at h ∙ ap (λ z. cond z (Some (joined (found old.blocks h) x.label)) (found old.blocks h)) y))
+          (same_of (EndsLoop f place (λ l. labelled (take k f) l) h) (EndsLoop f place (λ l. labelled (take (k + 1) f) l) h) on (found old.blocks h)
           (λ b p. elim (back b p) [
             | inl q ↦ q
             | inr q ↦ absurd (not_it (edge_of f x.label (place x.label)) h y (ap (λ l. edge_of f l (place l)) (sym q) ∙ p.1))
@@ -159,7 +158,7 @@ module _ (f : Code) (place : ℕ → Option Context) (w : IsWalk f (InPlaces pla
   told_one h (Some (Some a)) i x = refl
 
   pub ends_tell : Tells (λ h. has_one edges h) (OneBackEdge f)
-  ends_tell = record { sound = λ h e. one_told h (get nat_cmp edges.blocks h) (i h) e; whole = λ h x. told_one h (get nat_cmp edges.blocks h) (i h) x }
+  ends_tell = record { sound = λ h e. one_told h (found edges.blocks h) (i h) e; whole = λ h x. told_one h (found edges.blocks h) (i h) x }
 
 pub ends_all : (f g : Code) (place : ℕ → Option Context) (k : ℕ) (edges : BackEdges) → g ≡ f → IsWalk f (InPlaces place) → length g ≤ k
     → HasEnds f place (λ l. labelled (take k f) l) edges → Tells (λ h. has_one edges h) (OneBackEdge f)

@@ -3,10 +3,9 @@ use Rattle.std.proofs.Common.{◌≡◌, ◌⊎◌, inl, inr, ℕ, ◌+◌, ◌<
 use Rattle.std.proofs.lemmas.Bool.{false≢true}
 use Rattle.std.proofs.lemmas.List.{length_push}
 use Rattle.std.proofs.lemmas.List.Folds.{list_any-append}
-use Rattle.std.specs.BTreeMap.{get}
+use Rattle.spv_blocks.specs.Tables.{found}
 use Rattle.std.specs.List.{count_by}
 use Rattle.std.specs.Option.{is_none}
-use Rattle.std.specs.Ordering.{nat_cmp}
 use Rattle.spv_blocks.specs.Blocks.{Code, Block, End, Open, Construct, ASelection, ASwitch, ALoop, block, of_block, is_some_block, has, targets, end_targets, branches, last_opens, construct, merge_of, next_of, is_label, is_first, is_it, stops, goes}
 use Rattle.spv_walk.specs.Contexts.{Context, is_exit, is_fall, begins_case, behind, next_context}
 use Rattle.spv_walk.specs.Walk.{end_of, leads, Walk, Starts}
@@ -183,8 +182,8 @@ module _ (f : Code) (enterer : ℕ → Option ℕ) (e : AreEnterers f enterer) (
   pub turn_less : work f k < work f g
   turn_less =
       let more : work f k ≤ work f h = a.less (λ p c n. goes_labels f enterer b n.found n.here e n.context p c n.goes) in
-      let places : count_by (λ x. is_none (get nat_cmp h.walked.places x.label)) f ≡ count_by (λ x. is_none (get nat_cmp g.walked.places x.label)) f =
-      ap (λ (w : Walked). count_by (λ x. is_none (get nat_cmp w.places x.label)) f) same in
+      let places : count_by (λ x. is_none (found h.walked.places x.label)) f ≡ count_by (λ x. is_none (found g.walked.places x.label)) f =
+      ap (λ (w : Walked). count_by (λ x. is_none (found w.places x.label)) f) same in
       let waiting : length g.waiting.items ≡ length h.waiting.items + 1 = ap length popped ∙ length_push h.waiting.items b in
       omega arith
 

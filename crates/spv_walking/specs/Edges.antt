@@ -1,7 +1,6 @@
 -- The blocks that end loops, by a table of contexts.
 use Rattle.std.specs.Prelude.{◌≡◌, ℕ, Bool, true, false, cond, ◌&&◌, ◌==◌, [], ◌∷◌, Option, Some, None, is_none}
-use Rattle.std.specs.BTreeMap.{get}
-use Rattle.std.specs.Ordering.{nat_cmp}
+use Rattle.spv_blocks.specs.Tables.{found}
 use Rattle.spv_blocks.specs.Blocks.{Code, branches, construct, is_it}
 use Rattle.spv_walk.specs.Contexts.{InSelection, InArm, InBody, InNext, Context}
 use Rattle.spv_walking.specs.declared.closing.BackEdges.{BackEdges}
@@ -26,7 +25,7 @@ is_one (Some None) = false
 is_one (Some (Some b)) = true
 
 abbrev pub has_one : BackEdges → (h : ℕ) → Bool
-has_one edges h = is_one (get nat_cmp edges.blocks h)
+has_one edges h = is_one (found edges.blocks h)
 
 -- what the table has of a loop once it has the block b too
 abbrev pub joined : Option (Option ℕ) → (b : ℕ) → Option ℕ
@@ -36,4 +35,4 @@ joined (Some (Some a)) b = cond (a == b) (Some b) None
 
 -- the block b is added to the loop that it ends, if it ends one
 pub record AddsEdge (old new : BackEdges) (ends : Option ℕ) (b : ℕ) : Type 0 where
-  pub at : (h : ℕ) → get nat_cmp new.blocks h ≡ cond (is_it h ends) (Some (joined (get nat_cmp old.blocks h) b)) (get nat_cmp old.blocks h)
+  pub at : (h : ℕ) → found new.blocks h ≡ cond (is_it h ends) (Some (joined (found old.blocks h) b)) (found old.blocks h)

@@ -1,9 +1,8 @@
 -- What the steps of a walk that is under way do to it.
 use Rattle.std.specs.Prelude.{◌≡◌, ◌⊎◌, ℕ, ◌+◌, ◌≤◌, Bool, true, false, not, cond, List, [], ◌∷◌, ◌++◌, length, count_by, is_some, is_none, Option, Some}
-use Rattle.std.specs.BTreeMap.{get}
-use Rattle.std.specs.Ordering.{nat_cmp}
+use Rattle.spv_blocks.specs.Tables.{found}
 use Rattle.spv_blocks.specs.Blocks.{Code, Block, block, has, is_first, is_label, stops}
-use Rattle.spv_blocks.specs.Places.{AddsPlace}
+use Rattle.spv_blocks.specs.Places.{KeepsPlace}
 use Rattle.spv_walk.specs.Contexts.{Context}
 use Rattle.spv_walk.specs.Walked.{HasSome, InPlaces}
 use Rattle.spv_walking.specs.declared.going.Going.{Going}
@@ -17,13 +16,13 @@ is_done going label = not (has going.waiting.items label)
 
 -- how much is left to be done: the blocks that the walk has not come to, and those that wait
 abbrev pub work : Code → Going → ℕ
-work f going = count_by (λ b. is_none (get nat_cmp going.walked.places b.label)) f + length going.waiting.items
+work f going = count_by (λ b. is_none (found going.walked.places b.label)) f + length going.waiting.items
 
 -- the walk comes to one block, unless it has
 pub record Visits (old new : Going) (label place : ℕ) : Type 0 where
   pub rows : new.walked.rows ≡ old.walked.rows
-  pub places : AddsPlace old.walked.places new.walked.places place label
-  pub waiting : new.waiting.items ≡ cond (is_some (get nat_cmp old.walked.places label)) old.waiting.items (old.waiting.items ++ label ∷ [])
+  pub places : KeepsPlace old.walked.places new.walked.places place label
+  pub waiting : new.waiting.items ≡ cond (is_some (found old.walked.places label)) old.waiting.items (old.waiting.items ++ label ∷ [])
 
 -- the walk comes to some blocks, each in its context unless it has come there in another; they wait, and less is left to be done
 pub record Comes (f : Code) (old new : Going) (New : ℕ → Context → Type 0) : Type 0 where

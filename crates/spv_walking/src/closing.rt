@@ -2,36 +2,34 @@ use crate::falls::branches;
 use crate::rows::Level;
 use crate::walked::Walked;
 use spv_base::NoMemory;
-use spv_blocks::{Function, Labels};
+use spv_blocks::{Function, Labels, Table};
 use std::alloc::Global;
-use std::collections::BTreeMap;
 
 /// The walked blocks that end continue parts of loops with back edges, by the labels of the headers.
 #[derive(Drop)]
 pub struct BackEdges {
     /// The one block, by its label; none where there are more.
-    blocks: BTreeMap<u32, Option<u32>>,
+    blocks: Table<Option<u32>>,
 }
 
 impl BackEdges {
     ghost use Rattle.std.specs.Prelude.{◌≡◌, ℕ, None, OnOk, IfOk};
-    ghost use Rattle.std.specs.BTreeMap.{get};
-    ghost use Rattle.std.specs.Ordering.{nat_cmp};
+    ghost use Rattle.spv_blocks.specs.Tables.{found};
     ghost use Rattle.spv_walking.specs.Edges.{has_one as has_one_in, AddsEdge};
 
-    fn new(alloc: Global) -> BackEdges
-        ensures { (header : ℕ) → get nat_cmp result.blocks header ≡ None }
+    fn beside(alloc: Global, labels: &Labels) -> Result<BackEdges, NoMemory>
+        ensures { IfOk result (λ edges. (header : ℕ) → found edges.blocks header ≡ None) }
     {
-        BackEdges {
-            blocks: BTreeMap::new(alloc),
-        }
+        Ok(BackEdges {
+            blocks: Table::beside(alloc, labels)?,
+        })
     }
 
     /// Whether the continue part of the loop with this header ends in exactly one back edge.
     pub fn has_one(&self, header: u32) -> bool
         ensures { result ≡ has_one_in self.now header }
     {
-        match self.blocks.get(&header).copied() {
+        match self.blocks.get(header) {
             Some(Some(_)) => true,
             Some(None) => false,
             None => false,
@@ -43,13 +41,12 @@ impl BackEdges {
         ensures { OnOk result (AddsEdge self.old self.new header label) }
     {
         let Some(header) = header else { return Ok(()) };
-        let block = match self.blocks.get(&header).copied() {
+        let block = match self.blocks.get(header) {
             None => Some(label),
             Some(Some(one)) if one == label => Some(label),
             Some(_) => None,
         };
-        self.blocks.insert(header, block).map_err(|_| NoMemory)?;
-        Ok(())
+        self.blocks.put(header, block)
     }
 }
 
@@ -90,7 +87,7 @@ impl Walked {
         requires walk { IsWalk labels.now (InPlaces (context_of self.now)) }
         ensures { IfOk result (λ edges. Tells (λ header. has_one_in edges header) (OneBackEdge labels.now)) }
     {
-        let mut edges = BackEdges::new(alloc);
+        let mut edges = BackEdges::beside(alloc, labels)?;
         'each: for k in 0..function.count() {
             let label = function.block(k).label;
             edges.add(self.ends_loop(labels, label), label)?;

@@ -6,9 +6,7 @@ ghost use Rattle.spv_blocks.specs.Seen.{seen_construct};
 use crate::rows::Level;
 use crate::walked::Walked;
 use spv_base::NoMemory;
-use spv_blocks::{Block, Construct, Labels};
-use std::alloc::Global;
-use std::collections::BTreeMap;
+use spv_blocks::{Block, Construct, Labels, Table};
 
 /// A walk that is under way: the blocks that it has come to, and those of them that it has not gone on from.
 #[derive(Drop)]
@@ -30,8 +28,8 @@ fn merge_of(construct: Option<Construct>) -> Option<u32>
 
 impl Going {
     ghost use Rattle.std.specs.Prelude.{◌≡◌, ℕ, ◌<◌, ◌∷◌, ◌++◌, [], length, OnOk, MatchOption};
-    ghost use Rattle.std.specs.BTreeMap.{get};
-    ghost use Rattle.std.specs.Ordering.{nat_cmp};
+    ghost use Rattle.spv_blocks.specs.Tables.{found};
+    ghost use Rattle.spv_blocks.specs.Blocks.{end_targets};
     ghost use Rattle.spv_blocks.specs.Seen.{seen_block};
     ghost use Rattle.spv_walking.specs.Places.{context_at};
     ghost use Rattle.spv_walking.specs.Onward.{Goes, GoesTarget, GoesNext, GoesMerge, GoesOn};
@@ -61,14 +59,14 @@ impl Going {
     fn enter(
         &mut self,
         labels: &Labels,
-        enterers: &BTreeMap<u32, u32>,
+        enterers: &Table<u32>,
         header: u32,
         block: &Block,
         shared: usize,
         target: u32,
     ) -> Result<(), NoMemory>
         requires { shared < length self.old.walked.rows }
-        ensures { OnOk result (Comes labels.now self.old self.new (Goes labels.now (get nat_cmp enterers.now) header (seen_block block.now) (context_at self.old.walked.rows shared) (target ∷ []))) }
+        ensures { OnOk result (Comes labels.now self.old self.new (Goes labels.now (found enterers.now) header (seen_block block.now) (context_at self.old.walked.rows shared) (target ∷ []))) }
     {
         let inner = self.walked.arm(block.construct(), header, target, shared)?;
         if self
@@ -81,21 +79,20 @@ impl Going {
         }
     }
 
-    /// Comes to each of the targets that is walked to.
+    /// Comes to each target of a block that is walked to; `shared` is the place that the targets share.
     fn enter_all(
         &mut self,
         labels: &Labels,
-        enterers: &BTreeMap<u32, u32>,
+        enterers: &Table<u32>,
         header: u32,
         block: &Block,
         shared: usize,
-        targets: &[u32],
     ) -> Result<(), NoMemory>
         requires { shared < length self.old.walked.rows }
-        ensures { OnOk result (Comes labels.now self.old self.new (Goes labels.now (get nat_cmp enterers.now) header (seen_block block.now) (context_at self.old.walked.rows shared) targets.now)) }
+        ensures { OnOk result (Comes labels.now self.old self.new (Goes labels.now (found enterers.now) header (seen_block block.now) (context_at self.old.walked.rows shared) (end_targets (seen_block block.now).end))) }
     {
-        'targets: for target in targets {
-            self.enter(labels, enterers, header, block, shared, *target)?;
+        'targets: for k in 0..block.target_count() {
+            self.enter(labels, enterers, header, block, shared, block.target(k))?;
         }
         Ok(())
     }
@@ -146,35 +143,32 @@ impl Going {
     /// Comes to each target of a block that is walked to.
     fn enter_targets(
         &mut self,
-        alloc: Global,
         labels: &Labels,
-        enterers: &BTreeMap<u32, u32>,
+        enterers: &Table<u32>,
         header: u32,
         block: &Block,
         place: usize,
     ) -> Result<(), NoMemory>
         requires { place < length self.old.walked.rows }
-        ensures { OnOk result (Comes labels.now self.old self.new (GoesTarget labels.now (get nat_cmp enterers.now) header (seen_block block.now) (context_at self.old.walked.rows place))) }
+        ensures { OnOk result (Comes labels.now self.old self.new (GoesTarget labels.now (found enterers.now) header (seen_block block.now) (context_at self.old.walked.rows place))) }
     {
-        let targets = block.targets(alloc)?;
         let shared = self.walked.shared(block.construct(), header, place)?;
-        self.enter_all(labels, enterers, header, block, shared, &targets)
+        self.enter_all(labels, enterers, header, block, shared)
     }
 
     /// Comes to what is walked directly behind a block at a place, which is no header that is its own continue target.
     fn go_on(
         &mut self,
-        alloc: Global,
         labels: &Labels,
-        enterers: &BTreeMap<u32, u32>,
+        enterers: &Table<u32>,
         header: u32,
         block: &Block,
         place: usize,
     ) -> Result<(), NoMemory>
         requires { place < length self.old.walked.rows }
-        ensures { OnOk result (Comes labels.now self.old self.new (GoesOn labels.now (get nat_cmp enterers.now) header (seen_block block.now) (context_at self.old.walked.rows place))) }
+        ensures { OnOk result (Comes labels.now self.old self.new (GoesOn labels.now (found enterers.now) header (seen_block block.now) (context_at self.old.walked.rows place))) }
     {
-        self.enter_targets(alloc, labels, enterers, header, block, place)?;
+        self.enter_targets(labels, enterers, header, block, place)?;
         self.enter_next(labels, header, block, place)?;
         self.enter_merge(labels, header, block, place)
     }
@@ -182,20 +176,17 @@ impl Going {
     /// Comes to what is walked directly behind a block.
     pub(crate) fn turn(
         &mut self,
-        alloc: Global,
         labels: &Labels,
-        enterers: &BTreeMap<u32, u32>,
+        enterers: &Table<u32>,
         label: u32,
     ) -> Result<(), NoMemory>
-        ensures { OnOk result (Comes labels.now self.old self.new (OnwardFrom labels.now (get nat_cmp enterers.now) self.old.walked label)) }
+        ensures { OnOk result (Comes labels.now self.old self.new (OnwardFrom labels.now (found enterers.now) self.old.walked label)) }
     {
         if labels.stops(label) {
             return Ok(());
         }
         match (labels.block(label), self.walked.place(label)) {
-            (Some(block), Some(place)) => {
-                self.go_on(alloc, labels, enterers, label, block, place)
-            }
+            (Some(block), Some(place)) => { self.go_on(labels, enterers, label, block, place) }
             (None, _) => Ok(()),
             (_, None) => Ok(()),
         }

@@ -3,9 +3,8 @@ ghost use Rattle.spv_walking.specs.Least.{lesser as lesser_of};
 
 use crate::walked::Walked;
 use spv_base::{NoMemory, Refusal};
-use spv_blocks::{Block, Labels};
+use spv_blocks::{Block, Labels, Table};
 use std::alloc::Global;
-use std::collections::BTreeMap;
 
 /// BadTarget: a branch to what may not be walked to from there.
 pub(crate) const BAD_TARGET: u16 = 402;
@@ -25,8 +24,7 @@ fn lesser(one: Option<u16>, other: Option<u16>) -> Option<u16>
 
 impl Walked {
     ghost use Rattle.std.specs.Prelude.{◌≡◌, ◌<◌, true, false, length, Some, IfOk};
-    ghost use Rattle.std.specs.BTreeMap.{get};
-    ghost use Rattle.std.specs.Ordering.{nat_cmp};
+    ghost use Rattle.spv_blocks.specs.Tables.{found};
     ghost use Rattle.spv_module.specs.First.{here, least, first};
     ghost use Rattle.spv_blocks.specs.Blocks.{block as block_in, branches as branches_in, end_targets, has, stops as stops_in, targets as targets_in};
     ghost use Rattle.spv_blocks.specs.Seen.{seen_block};
@@ -40,23 +38,23 @@ impl Walked {
     pub(crate) fn admits(
         &self,
         labels: &Labels,
-        enterers: &BTreeMap<u32, u32>,
+        enterers: &Table<u32>,
         label: u32,
         place: usize,
         target: u32,
     ) -> bool
         requires { place < length self.now.rows }
-        ensures { result ≡ admits_in labels.now (get nat_cmp enterers.now) label (context_at self.now.rows place) target }
+        ensures { result ≡ admits_in labels.now (found enterers.now) label (context_at self.now.rows place) target }
     {
         (labels.stops(target) && !self.is_fall(labels, place, target))
-            || enterers.get(&target).copied() == Some(label)
+            || enterers.get(target) == Some(label)
     }
 
     /// Whether a target of a block at a place is no exit, and is not walked to.
     fn refuses(
         &self,
         labels: &Labels,
-        enterers: &BTreeMap<u32, u32>,
+        enterers: &Table<u32>,
         label: u32,
         block: &Block,
         place: usize,
@@ -66,7 +64,7 @@ impl Walked {
         requires runs { stops_in labels.now label ≡ false }
         requires branch { branches_in labels.now label target ≡ true }
         requires within { place < length self.now.rows }
-        ensures { result ≡ refuses_in labels.now (get nat_cmp enterers.now) label (context_at self.now.rows place) target }
+        ensures { result ≡ refuses_in labels.now (found enterers.now) label (context_at self.now.rows place) target }
     {
         !self
             .rows()
@@ -78,7 +76,7 @@ impl Walked {
     fn target_rule(
         &self,
         labels: &Labels,
-        enterers: &BTreeMap<u32, u32>,
+        enterers: &Table<u32>,
         label: u32,
         block: &Block,
         place: usize,
@@ -88,7 +86,7 @@ impl Walked {
         requires runs { stops_in labels.now label ≡ false }
         requires branch { branches_in labels.now label target ≡ true }
         requires within { place < length self.now.rows }
-        ensures { result ≡ least (target_rules labels.now (get nat_cmp enterers.now) label (context_at self.now.rows place) target) }
+        ensures { result ≡ least (target_rules labels.now (found enterers.now) label (context_at self.now.rows place) target) }
     {
         if !self.refuses(labels, enterers, label, block, place, target) {
             None
@@ -103,7 +101,7 @@ impl Walked {
     fn targets_rule(
         &self,
         labels: &Labels,
-        enterers: &BTreeMap<u32, u32>,
+        enterers: &Table<u32>,
         label: u32,
         block: &Block,
         place: usize,
@@ -113,7 +111,7 @@ impl Walked {
         requires runs { stops_in labels.now label ≡ false }
         requires targets { targets.now ≡ targets_in labels.now label }
         requires within { place < length self.now.rows }
-        ensures { result ≡ least (all_target_rules labels.now (get nat_cmp enterers.now) label (context_at self.now.rows place) targets.now) }
+        ensures { result ≡ least (all_target_rules labels.now (found enterers.now) label (context_at self.now.rows place) targets.now) }
     {
         let mut rule = None;
         'targets: for target in targets {
@@ -131,14 +129,14 @@ impl Walked {
         &self,
         alloc: Global,
         labels: &Labels,
-        enterers: &BTreeMap<u32, u32>,
+        enterers: &Table<u32>,
         label: u32,
         block: &Block,
         place: usize,
     ) -> Result<Option<Refusal>, NoMemory>
         requires here { block_in labels.now label ≡ Some (seen_block block.now) }
         requires within { place < length self.now.rows }
-        ensures { IfOk result (λ refusal. refusal ≡ first (here (end_at labels.now label) (all_target_rules labels.now (get nat_cmp enterers.now) label (context_at self.now.rows place) (targets_in labels.now label)))) }
+        ensures { IfOk result (λ refusal. refusal ≡ first (here (end_at labels.now label) (all_target_rules labels.now (found enterers.now) label (context_at self.now.rows place) (targets_in labels.now label)))) }
     {
         if labels.stops(label) {
             return Ok(None);

@@ -1,28 +1,25 @@
 ghost use Rattle.std.specs.Prelude.{◌≡◌, ℕ, ◌<◌, length, Some};
-ghost use Rattle.std.specs.BTreeMap.{get};
-ghost use Rattle.std.specs.Ordering.{nat_cmp};
+ghost use Rattle.spv_blocks.specs.Tables.{found};
 
 use crate::rows::{Level, Rows};
 use spv_base::NoMemory;
-use spv_blocks::{Construct, End, Labels};
+use spv_blocks::{Construct, End, Labels, Table};
 use std::alloc::Global;
-use std::collections::BTreeMap;
 
 /// The blocks that a walk through a function has come to, each with the place of its context.
 #[derive(Drop)]
 pub struct Walked {
     rows: Rows,
     /// The place of the context of a block, by its label.
-    places: BTreeMap<u32, usize>,
-    ghost within: { (label place : ℕ) → get nat_cmp places label ≡ Some place → place < length rows },
+    places: Table,
+    ghost within: { (label place : ℕ) → found places label ≡ Some place → place < length rows },
 }
 
 impl Walked {
     ghost use Rattle.std.specs.Prelude.{◌≡◌, ℕ, ◌<◌, ◌∷◌, ◌++◌, [], ◌&&◌, ◌||◌, not, length, None, IfOk, OnOk, IfSome};
-    ghost use Rattle.std.specs.BTreeMap.{get};
+    ghost use Rattle.spv_blocks.specs.Tables.{found};
     ghost use Rattle.std.specs.Option.{option_map};
-    ghost use Rattle.std.specs.Ordering.{nat_cmp};
-    ghost use Rattle.spv_blocks.specs.Places.{AddsPlace};
+    ghost use Rattle.spv_blocks.specs.Places.{KeepsPlace};
     ghost use Rattle.spv_blocks.specs.Seen.{seen_end, seen_construct};
     ghost use Rattle.spv_walking.specs.Kept.{level_of};
     ghost use Rattle.spv_walking.specs.Places.{context_at};
@@ -30,23 +27,23 @@ impl Walked {
     ghost use Rattle.spv_walking.specs.Table.{context_of, Widens};
 
     /// No block, and the place outside all constructs.
-    pub(crate) fn new(alloc: Global) -> Result<Walked, NoMemory>
+    pub(crate) fn new(alloc: Global, labels: &Labels) -> Result<Walked, NoMemory>
         ensures rows { IfOk result (λ walked. walked.rows ≡ [] ∷ []) }
-        ensures none { IfOk result (λ walked. (label : ℕ) → get nat_cmp walked.places label ≡ None) }
+        ensures none { IfOk result (λ walked. (label : ℕ) → found walked.places label ≡ None) }
     {
         Ok(Walked {
             rows: Rows::new(alloc)?,
-            places: BTreeMap::new(alloc),
+            places: Table::beside(alloc, labels)?,
         })
     }
 
     /// The place of the context of a block, by its label; none where the walk does not come to it.
     pub fn place(&self, label: u32) -> Option<usize>
-        ensures is { result ≡ get nat_cmp self.now.places label }
+        ensures is { result ≡ found self.now.places label }
         ensures context { option_map (context_at self.now.rows) result ≡ context_of self.now label }
         ensures within { IfSome result (λ place. place < length self.now.rows) }
     {
-        self.places.get(&label).copied()
+        self.places.get(label)
     }
 
     /// The contexts.
@@ -58,12 +55,12 @@ impl Walked {
 
     /// Adds a block that the walk has not come to.
     pub(crate) fn add(&mut self, label: u32, place: usize) -> Result<(), NoMemory>
-        requires new { get nat_cmp self.old.places label ≡ None }
+        requires new { found self.old.places label ≡ None }
         requires within { place < length self.old.rows }
         ensures rows { OnOk result (self.new.rows ≡ self.old.rows) }
-        ensures places { OnOk result (AddsPlace self.old.places self.new.places place label) }
+        ensures places { OnOk result (KeepsPlace self.old.places self.new.places place label) }
     {
-        self.places.insert(label, place).map_err(|_| NoMemory)?;
+        self.places.put(label, place)?;
         Ok(())
     }
 
@@ -118,14 +115,14 @@ impl Walked {
     pub(crate) fn may_enter(
         &self,
         labels: &Labels,
-        enterers: &BTreeMap<u32, u32>,
+        enterers: &Table<u32>,
         header: u32,
         end: &End,
         inner: usize,
         target: u32,
     ) -> bool
         requires { inner < length self.now.rows }
-        ensures { result ≡ may_enter_in labels.now (get nat_cmp enterers.now) header (seen_end end.now) (context_at self.now.rows inner) target }
+        ensures { result ≡ may_enter_in labels.now (found enterers.now) header (seen_end end.now) (context_at self.now.rows inner) target }
     {
         !self.rows.is_exit(inner, end, target)
             && self.admits(labels, enterers, header, inner, target)

@@ -1,7 +1,6 @@
 use Rattle.std.proofs.Common.{ℕ, Bool, not, ◌∙◌, get_or, sym, ap}
-use Rattle.std.specs.BTreeMap.{get}
+use Rattle.spv_blocks.specs.Tables.{found}
 use Rattle.std.specs.Global.{Vec}
-use Rattle.std.specs.Ordering.{nat_cmp}
 use Rattle.spv_walk.specs.Tables.{is_back_by}
 use Rattle.spv_entering.proofs.StepEdges.{kept-more, kept-past}
 use Rattle.spv_entering.proofs.cases.no_back.Goals as goal
@@ -9,7 +8,7 @@ use Rattle.spv_entering.proofs.cases.no_back.Goals.{then-not-is_back+in_ok-push,
 
 pub each-preserved : goal.each-preserved
 each-preserved c =
-    let test = λ (p : ℕ). not (is_back_by c.args.flow.now.code (get nat_cmp c.args.tops.now) c.args.t p) in
+    let test = λ (p : ℕ). not (is_back_by c.args.flow.now.code (found c.args.tops.now) c.args.t p) in
     elim c.if-not-is_back.branch [
       | then-not-is_back+in_ok-push w ↦
           ap (λ (v : Vec ℕ). v.items) w.left-is

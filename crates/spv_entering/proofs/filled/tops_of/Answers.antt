@@ -1,6 +1,6 @@
 use Rattle.std.proofs.Common.{◌≡◌, ℕ, sym, ap, subst, ◌∙◌}
-use Rattle.std.specs.BTreeMap.{BTreeMap, get}
-use Rattle.std.specs.Ordering.{nat_cmp}
+use Rattle.spv_blocks.specs.Tables.{found}
+use Rattle.spv_blocks.specs.declared.table.Table.{Table}
 use Rattle.std.specs.Option.{unwrap_or}
 use Rattle.spv_entering.specs.Filling.{passed_none}
 use Rattle.spv_entering.specs.Tops.{AreTops}
@@ -17,5 +17,5 @@ turns-preserved c =
 
 pub returns : goal.returns
 returns c =
-    subst (λ (m : BTreeMap ℕ ℕ). AreTops c.args.flow.now.code (λ b. get nat_cmp m b)) (sym (c.into_tops.ensures ∙ c.next.ensures.tops))
+    subst (λ (m : Table ℕ). AreTops c.args.flow.now.code (λ b. found m b)) (sym (c.into_tops.ensures ∙ c.next.ensures.tops))
     (table-ends c.args.flow.now c.turns.filling c.turns.invariant c.in_default.ensures.waiting)

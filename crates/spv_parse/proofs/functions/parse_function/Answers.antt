@@ -1,6 +1,5 @@
 use Rattle.std.proofs.Common.{ℕ, Bool, None, refl, subst, sym, ap, ◌∙◌}
 use Rattle.std.specs.List.{slice_get}
-use Rattle.std.specs.BTreeMap.{get}
 use Rattle.std.specs.BTreeSet.{contains}
 use Rattle.std.specs.Ordering.{nat_cmp}
 use Rattle.std.specs.Prelude.{Result}
@@ -8,6 +7,7 @@ use Rattle.std.specs.Result.{IfOk}
 use Rattle.spv_base.specs.declared.fault.Refusal.{Refusal}
 use Rattle.spv_blocks.specs.Blocks.{Code}
 use Rattle.spv_blocks.specs.Cutting.{function_at}
+use Rattle.spv_blocks.specs.Tables.{found}
 use Rattle.spv_walk.specs.Rules.{Broken, IsFirst}
 use Rattle.spv_walk.specs.Walked.{AreEnterers, InPlaces, IsWalk}
 use Rattle.spv_walking.specs.Depths.{IsDepth}
@@ -25,15 +25,15 @@ returns-then-depth-gt-DEPTH c =
     let flow = c.in-Ok.flow in
     let is_pointer : ℕ → Bool = contains nat_cmp c.args.pointers.now in
     let insts = function_at c.args.first c.args.flat.now.insts in
-    let told : IsTold is_pointer insts f (get nat_cmp flow.enterers) (context_of flow.walked) = record {
+    let told : IsTold is_pointer insts f (found flow.enterers) (context_of flow.walked) = record {
       same = c.in_ok-function.ensures;
       unbroken = subst (λ (r : Result Flow Refusal). IfOk r (λ x. IsFirst (Broken is_pointer f) None)) c.in-Ok.is c.in_ok-refusal.ensures.clean;
-      enterers = subst (λ (r : Result Flow Refusal). IfOk r (λ x. AreEnterers f (λ l. get nat_cmp x.enterers l))) c.in-Ok.is c.in_ok-refusal.ensures.enterers;
+      enterers = subst (λ (r : Result Flow Refusal). IfOk r (λ x. AreEnterers f (found x.enterers))) c.in-Ok.is c.in_ok-refusal.ensures.enterers;
       walk = subst (λ (r : Result Flow Refusal). IfOk r (λ x. IsWalk f (InPlaces (context_of x.walked)))) c.in-Ok.is c.in_ok-refusal.ensures.walk;
       loops = subst (λ (r : Result Flow Refusal). IfOk r (λ x. AreToldLoops f)) c.in-Ok.is c.in_ok-refusal.ensures.loops;
     } in
     let nested =
-    told_nested is_pointer insts f (get nat_cmp flow.enterers) (context_of flow.walked) told c.depth.result
+    told_nested is_pointer insts f (found flow.enterers) (context_of flow.walked) told c.depth.result
     (subst (λ (z : Code). IsDepth z (InPlaces (context_of flow.walked)) c.depth.result) c.in_ok-labels.ensures c.depth.ensures) in
     record { depth = c.depth.result; nested = nested; above = c.if-depth-gt-DEPTH.true }
 
@@ -43,14 +43,14 @@ parse_unbroken-requires-clause-admitted c =
     let flow = c.in-Ok.flow in
     let is_pointer : ℕ → Bool = contains nat_cmp c.args.pointers.now in
     let insts = function_at c.args.first c.args.flat.now.insts in
-    let told : IsTold is_pointer insts f (get nat_cmp flow.enterers) (context_of flow.walked) = record {
+    let told : IsTold is_pointer insts f (found flow.enterers) (context_of flow.walked) = record {
       same = c.in_ok-function.ensures;
       unbroken = subst (λ (r : Result Flow Refusal). IfOk r (λ x. IsFirst (Broken is_pointer f) None)) c.in-Ok.is c.in_ok-refusal.ensures.clean;
-      enterers = subst (λ (r : Result Flow Refusal). IfOk r (λ x. AreEnterers f (λ l. get nat_cmp x.enterers l))) c.in-Ok.is c.in_ok-refusal.ensures.enterers;
+      enterers = subst (λ (r : Result Flow Refusal). IfOk r (λ x. AreEnterers f (found x.enterers))) c.in-Ok.is c.in_ok-refusal.ensures.enterers;
       walk = subst (λ (r : Result Flow Refusal). IfOk r (λ x. IsWalk f (InPlaces (context_of x.walked)))) c.in-Ok.is c.in_ok-refusal.ensures.walk;
       loops = subst (λ (r : Result Flow Refusal). IfOk r (λ x. AreToldLoops f)) c.in-Ok.is c.in_ok-refusal.ensures.loops;
     } in
-    told_admitted is_pointer insts f (get nat_cmp flow.enterers) (context_of flow.walked) told c.args.flat.now.insts c.args.first refl c.requires.text
+    told_admitted is_pointer insts f (found flow.enterers) (context_of flow.walked) told c.args.flat.now.insts c.args.first refl c.requires.text
     (subst AreInstructions c.insts.ensures.same c.each_is_instruction.ensures)
     (λ k i at. c.each_is_short.ensures k i (ap (λ is. slice_get is k) c.from.ensures ∙ at)) c.requires.own
 
@@ -64,14 +64,14 @@ returns c =
     let flow = c.in-Ok.flow in
     let is_pointer : ℕ → Bool = contains nat_cmp c.args.pointers.now in
     let insts = function_at c.args.first c.args.flat.now.insts in
-    let told : IsTold is_pointer insts f (get nat_cmp flow.enterers) (context_of flow.walked) = record {
+    let told : IsTold is_pointer insts f (found flow.enterers) (context_of flow.walked) = record {
       same = c.in_ok-function.ensures;
       unbroken = subst (λ (r : Result Flow Refusal). IfOk r (λ x. IsFirst (Broken is_pointer f) None)) c.in-Ok.is c.in_ok-refusal.ensures.clean;
-      enterers = subst (λ (r : Result Flow Refusal). IfOk r (λ x. AreEnterers f (λ l. get nat_cmp x.enterers l))) c.in-Ok.is c.in_ok-refusal.ensures.enterers;
+      enterers = subst (λ (r : Result Flow Refusal). IfOk r (λ x. AreEnterers f (found x.enterers))) c.in-Ok.is c.in_ok-refusal.ensures.enterers;
       walk = subst (λ (r : Result Flow Refusal). IfOk r (λ x. IsWalk f (InPlaces (context_of x.walked)))) c.in-Ok.is c.in_ok-refusal.ensures.walk;
       loops = subst (λ (r : Result Flow Refusal). IfOk r (λ x. AreToldLoops f)) c.in-Ok.is c.in_ok-refusal.ensures.loops;
     } in
     let nested =
-    told_nested is_pointer insts f (get nat_cmp flow.enterers) (context_of flow.walked) told c.depth.result
+    told_nested is_pointer insts f (found flow.enterers) (context_of flow.walked) told c.depth.result
     (subst (λ (z : Code). IsDepth z (InPlaces (context_of flow.walked)) c.depth.result) c.in_ok-labels.ensures c.depth.ensures) in
-    record { depth = c.depth.result; nested = nested; within = c.if-depth-gt-DEPTH.false; clean = told_clean is_pointer insts f (get nat_cmp flow.enterers) (context_of flow.walked) told; spelled = c.in_ok-parse_unbroken-in-Ok.ensures }
+    record { depth = c.depth.result; nested = nested; within = c.if-depth-gt-DEPTH.false; clean = told_clean is_pointer insts f (found flow.enterers) (context_of flow.walked) told; spelled = c.in_ok-parse_unbroken-in-Ok.ensures }

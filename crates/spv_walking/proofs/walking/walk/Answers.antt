@@ -1,5 +1,4 @@
-use Rattle.std.specs.BTreeMap.{get}
-use Rattle.std.specs.Ordering.{nat_cmp}
+use Rattle.spv_blocks.specs.Tables.{found}
 use Rattle.spv_walking.proofs.Turning.{started, turned, turn_less, finished}
 use Rattle.spv_walking.proofs.walking.walk.Goals as goal
 
@@ -8,12 +7,12 @@ turns-init c = started c.args.labels.now c.in_ok-going.going c.in_ok-going.ensur
 
 pub turns-smaller : goal.turns-smaller
 turns-smaller c =
-    turn_less c.args.labels.now (get nat_cmp c.args.enterers.now) c.requires c.turns.going c.next.new.self c.turn.new.self c.in-Some.label c.in-Some.ensures.walked
+    turn_less c.args.labels.now (found c.args.enterers.now) c.requires c.turns.going c.next.new.self c.turn.new.self c.in-Some.label c.in-Some.ensures.walked
     c.in-Some.ensures.waiting c.in_ok-turn.ensures
 
 pub turns-preserved : goal.turns-preserved
 turns-preserved c =
-    turned c.args.labels.now (get nat_cmp c.args.enterers.now) c.requires c.turns.going c.next.new.self c.turn.new.self c.in-Some.label c.in-Some.ensures.walked
+    turned c.args.labels.now (found c.args.enterers.now) c.requires c.turns.going c.next.new.self c.turn.new.self c.in-Some.label c.in-Some.ensures.walked
     c.in-Some.ensures.waiting c.in_ok-turn.ensures c.turns.invariant
 
 pub returns : goal.returns

@@ -1,6 +1,5 @@
 use Rattle.std.proofs.Common.{◌≡◌, ◌<◌, ◌≤◌, ◌∙◌, ℕ, true, List, length, get_or, sym, ap, subst}
-use Rattle.std.specs.BTreeMap.{get}
-use Rattle.std.specs.Ordering.{nat_cmp}
+use Rattle.spv_blocks.specs.Tables.{found}
 use Rattle.spv_blocks.specs.Blocks.{Code, branches}
 use Rattle.spv_blocks.specs.Places.{is_free}
 use Rattle.spv_entering.specs.Flow.{before}
@@ -13,7 +12,7 @@ pub switches-init : goal.switches-init
 switches-init c =
     let flow = c.args.self.now.flow in
     let free : is_free flow.code c.args.t ≡ true = ap (λ (k : Code). is_free k c.args.t) (sym c.labels.ensures) ∙ sym c.is_free.ensures ∙ c.if-not-is_free.false in
-    left-first flow c.args.t (λ q. c.before-s-items.ensures.branches q (free-label flow.code c.args.t free)) (λ b. get nat_cmp c.args.self.now.tops.now b) c.in_ok-left.left.items c.requires.tops c.in_ok-left.ensures
+    left-first flow c.args.t (λ q. c.before-s-items.ensures.branches q (free-label flow.code c.args.t free)) (λ b. found c.args.self.now.tops.now b) c.in_ok-left.left.items c.requires.tops c.in_ok-left.ensures
 
 pub take_falls-requires-clause-header : goal.take_falls-requires-clause-header
 take_falls-requires-clause-header c =

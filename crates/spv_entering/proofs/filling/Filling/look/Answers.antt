@@ -1,7 +1,7 @@
 use Rattle.std.proofs.Common.{ℕ, Option, Some, None, sym, ap, subst, ◌∙◌}
-use Rattle.std.specs.BTreeMap.{BTreeMap, get}
+use Rattle.spv_blocks.specs.Tables.{found}
+use Rattle.spv_blocks.specs.declared.table.Table.{Table}
 use Rattle.std.specs.Option.{is_some}
-use Rattle.std.specs.Ordering.{nat_cmp}
 use Rattle.std.proofs.lemmas.Result.{on_ok_weaker}
 use Rattle.spv_blocks.specs.Blocks.{Code}
 use Rattle.spv_blocks.specs.Places.{is_free}
@@ -34,7 +34,7 @@ returns-in_default-loop_along c =
     let s = c.args.self.now in
     looks-apart flow s c.lone.new.self c.args.t c.requires (same-filling s c.lone.new.self c.lone.ensures.tops c.lone.ensures.waiting) c.in_ok-p.ensures.going c.in-Some.p
     (subst (λ (o : Option ℕ). FindsLone flow.code (top_of s) c.args.t o) c.in-Some.is c.in_ok-p.ensures.lone)
-    (subst (λ (m : BTreeMap ℕ ℕ). AlongTo flow.code (λ b. get nat_cmp m b) c.args.t c.in-Some.p None) c.lone.ensures.tops c.in_default-loop_along.ensures)
+    (subst (λ (m : Table ℕ). AlongTo flow.code (λ b. found m b) c.args.t c.in-Some.p None) c.lone.ensures.tops c.in_default-loop_along.ensures)
 
 pub returns : goal.returns
 returns c =
@@ -43,6 +43,6 @@ returns c =
     on_ok_weaker c.put.result
     (looks-put flow s c.put.new.self c.args.t c.requires c.lone.new.self (same-filling s c.lone.new.self c.lone.ensures.tops c.lone.ensures.waiting) c.in_ok-p.ensures.going c.in-Some.p c.in-Some-loop_along.h
     (subst (λ (o : Option ℕ). FindsLone flow.code (top_of s) c.args.t o) c.in-Some.is c.in_ok-p.ensures.lone)
-    (subst (λ (m : BTreeMap ℕ ℕ). AlongTo flow.code (λ b. get nat_cmp m b) c.args.t c.in-Some.p (Some c.in-Some-loop_along.h)) c.lone.ensures.tops c.in-Some-loop_along.ensures)
+    (subst (λ (m : Table ℕ). AlongTo flow.code (λ b. found m b) c.args.t c.in-Some.p (Some c.in-Some-loop_along.h)) c.lone.ensures.tops c.in-Some-loop_along.ensures)
     (ap (λ (f : Code). is_free f c.args.t) (sym c.labels.ensures) ∙ sym c.is_free.ensures ∙ c.if-not-is_free.false))
     c.put.ensures

@@ -1,9 +1,8 @@
 use Rattle.std.proofs.Common.{◌≡◌, ◌∷◌, [], refl, sym, ap, ◌∙◌}
 use Rattle.std.proofs.lemmas.Bool.{false≢true}
 use Rattle.std.proofs.lemmas.Result.{on_ok_weaker}
-use Rattle.std.specs.BTreeMap.{get}
+use Rattle.spv_blocks.specs.Tables.{found}
 use Rattle.std.specs.Option.{option_map}
-use Rattle.std.specs.Ordering.{nat_cmp}
 use Rattle.spv_blocks.specs.Seen.{seen_block, seen_construct}
 use Rattle.spv_walking.specs.Onward.{opened, arm, may_enter, Goes}
 use Rattle.spv_walking.specs.Places.{context_at}
@@ -18,7 +17,7 @@ returns-then-may_enter c =
     let b = c.args.header in
     let t = c.args.target in
     let s = context_at c.args.self.now.walked.rows c.args.shared in
-    let enterer = get nat_cmp c.args.enterers.now in
+    let enterer = found c.args.enterers.now in
     let w = c.in_ok-inner.ensures in
     on_ok_weaker c.visit.result
     (λ v. widened_visit f c.args.self.now (record { walked = c.arm.new.self; waiting = c.args.self.now.waiting }) c.visit.new.self c.in_ok-inner.inner t
@@ -38,7 +37,7 @@ returns-else-may_enter c =
     let b = c.args.header in
     let t = c.args.target in
     let s = context_at c.args.self.now.walked.rows c.args.shared in
-    let enterer = get nat_cmp c.args.enterers.now in
+    let enterer = found c.args.enterers.now in
     let w = c.in_ok-inner.ensures in
     comes_to_none f c.args.self.now (record { walked = c.arm.new.self; waiting = c.args.self.now.waiting }) w.added (Goes f enterer b x s (t ∷ [])) w.rows w.places refl
     (λ p d n.

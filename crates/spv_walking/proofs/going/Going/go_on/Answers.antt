@@ -1,7 +1,6 @@
 use Rattle.std.proofs.Common.{◌≡◌, ◌<◌, length, ◌∙◌}
 use Rattle.std.proofs.lemmas.Result.{on_ok_weaker}
-use Rattle.std.specs.BTreeMap.{get}
-use Rattle.std.specs.Ordering.{nat_cmp}
+use Rattle.spv_blocks.specs.Tables.{found}
 use Rattle.spv_blocks.specs.Seen.{seen_block}
 use Rattle.spv_walking.specs.Onward.{GoesTarget, GoesNext}
 use Rattle.spv_walking.specs.Places.{context_at}
@@ -11,7 +10,7 @@ use Rattle.spv_walking.proofs.going.Going.go_on.Goals as goal
 pub returns : goal.returns
 returns c =
     let f = c.args.labels.now in
-    let enterer = get nat_cmp c.args.enterers.now in
+    let enterer = found c.args.enterers.now in
     let b = c.args.header in
     let x = seen_block c.args.block.now in
     let g = c.args.self.now in

@@ -5,7 +5,7 @@ use Rattle.spv_walking.proofs.LoopEnds.{ends_none, ends_next, ends_all}
 use Rattle.spv_walking.proofs.walked.Walked.back_edges.Goals as goal
 
 pub each-init : goal.each-init
-each-init c = ends_none c.args.labels.now (context_of c.args.self.now) c.new-edges.result c.new-edges.ensures
+each-init c = ends_none c.args.labels.now (context_of c.args.self.now) c.in_ok-edges.edges c.in_ok-edges.ensures
 
 pub each-preserved : goal.each-preserved
 each-preserved c =
