@@ -81,10 +81,10 @@ module _ (f : Code) (clean : IsClean no_pointers f) where
 
 -- ---- a function has one depth, which is that of its tree
 
-no_deeper : (f : Code) (In : ℕ → Context → Type 0) (m n : ℕ) → IsDepth f In m → IsDepth f In n → m ≤ n
+pub no_deeper : (f : Code) (In : ℕ → Context → Type 0) (m n : ℕ) → IsDepth f In m → IsDepth f In n → m ≤ n
 no_deeper f In m n d e = elim d.reached [ inl z ↦ omega (arith, z) | inr h ↦ e.bound m h ]
 
-tree_depth : (insts : List Instruction) (stays : ℕ → ℕ) (f : Function) → IsAdmitted insts → SpellsFunction insts stays f
+pub tree_depth : (insts : List Instruction) (stays : ℕ → ℕ) (f : Function) → IsAdmitted insts → SpellsFunction insts stays f
     → IsDepth (blocks_of insts) (Walk (blocks_of insts)) (depth f.body)
 tree_depth insts stays f is_admitted spells =
     depth_by_walk (blocks_of insts) is_admitted.clean (depth f.body)

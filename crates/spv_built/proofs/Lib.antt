@@ -1,0 +1,12 @@
+pub mod Lists
+pub mod Trees
+pub mod Functions
+pub mod Bodies
+pub mod Normal
+pub mod Whole
+pub mod Choosing
+pub mod Deciding
+pub mod Narrower
+pub mod Promises
+pub mod Read
+pub mod Nothing
