@@ -1,0 +1,12 @@
+pub mod Used
+pub mod Lookups
+pub mod Arithmetic
+pub mod Words
+pub mod Vectors
+pub mod Composites
+pub mod Thirds
+pub mod Memory
+pub mod Usage
+pub mod Signatures
+pub mod Rules
+pub mod Nothing
