@@ -1,0 +1,6 @@
+pub mod Normal
+pub mod Short
+pub mod Built
+pub mod Module
+pub mod LaidOut
+pub mod Dropping
