@@ -15,13 +15,14 @@ use Rattle.spv_fine.specs.Laws.{IsKnown, Told}
 use Rattle.spv_fine_edits.specs.Laws.{Put, Replacing}
 use Rattle.spv_fine_edits.proofs.Bools.{both_told, each_told}
 use Rattle.spv_fine_edits.proofs.Dropped.{dropped}
+use Rattle.spv_fine_edits.proofs.Lists.{one_or}
 use Rattle.spv_fine_edits.proofs.Replaced.{replaced}
 use Rattle.spv_structured_edits.proofs.Whole.{opens_stays, structured_stays}
 use Rattle.spv_typed_edits.proofs.Edited.{typed_stays}
 use Rattle.spv_built.proofs.Narrower.{Promises, function_less}
 use Rattle.spv_built_edits.proofs.Normal.{normal_stays}
 use Rattle.spv_built_edits.proofs.Short.{short_stays}
-use Rattle.spv_built_edits.specs.Edits.{MovesOnly, put_for}
+use Rattle.spv_built_edits.specs.Edits.{MovesOnly}
 use Rattle.spv_built_edits.specs.Laws.{BuiltStays, BuiltWhereDropped, BuiltWhereReplaced}
 
 pub built_stays : BuiltStays
@@ -59,9 +60,9 @@ built_where_dropped before after e gone f fits drops h =
 
 -- ---- what is put for what was promised
 
-either : (a b : Bool) → (a || b) ≡ true → (a ≡ true) ⊎ (b ≡ true)
-either true b e = inl refl
-either false b e = inr e
+-- told by a test, where other ids are put for some alone: what was promised and what is put for it, but for what is gone
+abbrev put_for : (moved : List ℕ) → Replacing → (promised : (label id : ℕ) → Bool) → (label id : ℕ) → Bool
+put_for moved r promised label id = not (r.gone id) && (promised label id || list_any (λ x. promised label x && r.edit.uses x == id) moved)
 
 both : (a b : Bool) → (a && b) ≡ true → (a ≡ true) × (b ≡ true)
 both true b e = (refl, e)
@@ -86,14 +87,14 @@ module _ (r : Replacing) (promised : (label id : ℕ) → Bool) where
   -- some id of a list, and what is told of one
   some : (label id : ℕ) (moved : List ℕ) → list_any (moves_to label id) moved ≡ true → (x : ℕ) × (promised label x ≡ true) × (r.edit.uses x ≡ id)
   some label id [] e = absurd (true≢false (sym e))
-  some label id (x ∷ moved) e = elim (either (moves_to label id x) (list_any (moves_to label id) moved) e) [
+  some label id (x ∷ moved) e = elim (one_or (moves_to label id x) (list_any (moves_to label id) moved) e) [
     | inl here ↦ let parts = both (promised label x) (r.edit.uses x == id) here in (x, parts.0, eqb-true (r.edit.uses x) id parts.1)
     | inr there ↦ some label id moved there
   ]
 
   one : (label id x : ℕ) (moved : List ℕ) → has moved x ≡ true → promised label x ≡ true → r.edit.uses x ≡ id → list_any (moves_to label id) moved ≡ true
   one label id x [] e p same = absurd (true≢false (sym e))
-  one label id x (y ∷ moved) e p same = elim (either (y == x) (has moved x) e) [
+  one label id x (y ∷ moved) e p same = elim (one_or (y == x) (has moved x) e) [
     | inl here ↦
         let is : y ≡ x = eqb-true y x here in
         first_holds (moves_to label id y) (list_any (moves_to label id) moved)
@@ -106,7 +107,7 @@ module _ (r : Replacing) (promised : (label id : ℕ) → Bool) where
     told_is_put label id k =
         let parts = both (not (r.gone id)) (promised label id || list_any (moves_to label id) moved) k in (
           not_gone (r.gone id) parts.0,
-          elim (either (promised label id) (list_any (moves_to label id) moved) parts.1) [
+          elim (one_or (promised label id) (list_any (moves_to label id) moved) parts.1) [
             | inl here ↦ (id, here, inl refl)
             | inr there ↦ let found = some label id moved there in (found.0, found.1, inr (sym found.2))
           ],

@@ -2,6 +2,7 @@
 use Rattle.std.proofs.Common.{◌≡◌, ℕ, zero, suc, ◌<◌, ◌==◌, ◌||◌, Bool, true, false, cond, List, [], ◌∷◌, length, Some, refl, sym, ap, ◌∙◌, subst, arith}
 use Rattle.std.specs.Prelude.{count_by, map}
 use Rattle.std.specs.List.{AllByRecursion, Contains, slice_get}
+use Rattle.std.proofs.lemmas.List.{length-map}
 use Rattle.spv_module.specs.Code.{is_function}
 use Rattle.spv_module.specs.Instruction.{Instruction}
 use Rattle.spv_blocks.specs.Blocks.{Block, Code, block, is_label, is_some_block}
@@ -28,12 +29,8 @@ use Rattle.spv_built_edits.specs.Laws.{ModuleStays}
 
 -- ---- the functions of a module by their numbers
 
-mapped_length : {A B : Type 0} (g : A → B) (xs : List A) → length (map g xs) ≡ length xs
-mapped_length g [] = refl
-mapped_length g (x ∷ xs) = ap suc (mapped_length g xs)
-
 functions_count : (insts : List Instruction) → length (functions_of insts) ≡ count_by is_function insts
-functions_count insts = mapped_length (λ first. blocks_of (function_at first insts)) (starts insts) ∙ are_counted insts
+functions_count insts = length-map (starts insts) (λ first. blocks_of (function_at first insts)) ∙ are_counted insts
 
 mapped_at : (insts : List Instruction) (firsts : List ℕ) (k : ℕ) (f : Code) → slice_get (map (λ first. blocks_of (function_at first insts)) firsts) k ≡ Some f
     → blocks_of (function_from insts (slice_get firsts k)) ≡ f

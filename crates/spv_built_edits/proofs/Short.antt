@@ -10,6 +10,7 @@ use Rattle.spv_editing.specs.Editing.{Edit, edited, edited_arms, edited_end, edi
 use Rattle.spv_editing.specs.Showing.{Shown, carried, shown, shown_in_arms, uses, words_shown}
 use Rattle.spv_editing.proofs.Kept.{branches-in-kept}
 use Rattle.spv_editing.proofs.Soundness.{arriving-mapped, in-order-mapped, mapped}
+use Rattle.spv_fine_edits.proofs.Lists.{all_both}
 use Rattle.spv_built.specs.Built.{IsShort}
 use Rattle.spv_built.proofs.Lists.{all_left, all_right}
 use Rattle.spv_built_edits.specs.Laws.{ShortStays}
@@ -19,8 +20,7 @@ Short ls = AllByRecursion IsShort ls
 
 -- of two lists of lines, the one behind the other
 both : (ls ms : List (List ℕ)) → Short ls → Short ms → Short (ls ++ ms)
-both [] ms h k = k
-both (l ∷ ls) ms h k = (h.0, both ls ms h.1 k)
+both ls ms h k = all_both IsShort ls ms h k
 
 left : (ls ms : List (List ℕ)) → Short (ls ++ ms) → Short ls
 left ls ms h = all_left IsShort ls ms h

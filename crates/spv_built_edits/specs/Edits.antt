@@ -1,6 +1,6 @@
 -- What is asked of an edit of a function that is built, round what its lines use.
-use Rattle.std.specs.Prelude.{◌≡◌, ℕ, Bool, ◌==◌, ◌&&◌, ◌||◌, not, true, false, List, [], ◌∷◌, ◌++◌, None}
-use Rattle.std.specs.List.{AllByRecursion, flat_map, list_any}
+use Rattle.std.specs.Prelude.{◌≡◌, ℕ, Bool, true, false, List, [], ◌∷◌, ◌++◌, None}
+use Rattle.std.specs.List.{AllByRecursion, flat_map}
 use Rattle.spv_module.specs.Code.{is_line}
 use Rattle.spv_module.specs.First.{first}
 use Rattle.spv_module.specs.Instruction.{Instruction, IsInstruction, roles}
@@ -18,7 +18,6 @@ use Rattle.spv_functions.specs.Functions.{is_pointer}
 use Rattle.spv_editing.specs.Editing.{Edit, KeepsSteps, edited_function}
 use Rattle.spv_editing.specs.Showing.{steps_of}
 use Rattle.spv_typed_trees.specs.Typed.{as_instruction}
-use Rattle.spv_fine_edits.specs.Laws.{Replacing}
 use Rattle.spv_typed_edits.specs.Edits.{KeepsFitting, KeepsUses, SameRound, is_type}
 use Rattle.spv_built.specs.Built.{IsShort}
 
@@ -49,10 +48,6 @@ AreLines f = AllByRecursion (λ words. IsInstruction words (roles (as_instructio
 -- other ids are put for these alone
 abbrev pub MovesOnly : List ℕ → Edit → Type 0
 MovesOnly moved e = (id : ℕ) → has moved id ≡ false → e.uses id ≡ id
-
--- what is put for what was promised, told by a test: but for what is gone
-abbrev pub put_for : (moved : List ℕ) → Replacing → (promised : (label id : ℕ) → Bool) → (label id : ℕ) → Bool
-put_for moved r promised label id = not (r.gone id) && (promised label id || list_any (λ x. promised label x && r.edit.uses x == id) moved)
 
 -- ---- all functions of a module
 
