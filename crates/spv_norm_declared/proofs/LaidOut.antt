@@ -1,5 +1,5 @@
 -- The normal form of a module breaks no rule on the layout: outside functions instructions only go, and functions are listings.
-use Rattle.std.proofs.Common.{◌≡◌, ◌⊎◌, inl, inr, ℕ, zero, suc, ◌+◌, ◌<◌, ◌≤◌, max, Bool, true, false, cond, not, nat_eq, ◌&&◌, ◌||◌, ◌==◌, nat_lt, List, [], ◌∷◌, ◌++◌, None, refl, sym, ap, subst, ◌∙◌, arith, append_assoc, append-nil}
+use Rattle.std.proofs.Common.{◌≡◌, ◌⊎◌, inl, inr, ℕ, zero, suc, ◌+◌, ◌<◌, ◌≤◌, max, Bool, true, false, cond, not, nat_eq, ◌&&◌, ◌||◌, ◌==◌, nat_lt, List, [], ◌∷◌, ◌++◌, None, refl, sym, ap, subst, ◌∙◌, arith}
 use Rattle.std.specs.List.{AllByRecursion, count_by, filter, flat_map, list_any, range_with_len}
 use Rattle.std.proofs.lemmas.Bool.Decides.{nat_tests}
 use Rattle.std.proofs.lemmas.List.{map-append}
@@ -11,209 +11,22 @@ use Rattle.spv_module.specs.declared.layout.Layout.{Layout}
 use Rattle.spv_module.specs.declared.layout.Place.{Place}
 use Rattle.spv_module.specs.declared.layout.Place.TheVariants.{Outside, Head, Between, Inside}
 use Rattle.spv_module.specs.Code.{is_function, is_line, plain_section, row_section}
-use Rattle.spv_module.specs.First.{first, here, unless}
+use Rattle.spv_module.specs.First.{first}
 use Rattle.spv_module.specs.Instruction.{Instruction, opcode}
-use Rattle.spv_module.specs.Layout.{behind, end_rule, fits_place, group_2, is_capability, is_entry_point, is_memory_model, is_outside, layout_from, layout_rules, missing_rules, place_behind, without_lines}
-use Rattle.spv_module.specs.LayoutSteps.{kept_behind, kept_missing, kept_rules, nothing_kept}
-use Rattle.spv_module.proofs.Summary.{Summarizes, kept_missing-summary, kept_rules-summary, summary-nothing, summary-push}
+use Rattle.spv_module.specs.Layout.{behind, fits_place, group_2, is_capability, is_entry_point, is_memory_model, is_outside, without_lines}
+use Rattle.spv_module.specs.LayoutSteps.{kept_behind, nothing_kept}
 use Rattle.spv_typing.specs.Kinds.{is_one_of}
 use Rattle.spv_tree.specs.Sound.{opcode_in}
 use Rattle.spv_tree.specs.Tree.{words_of}
 use Rattle.spv_walk.proofs.Unique.{equal_true, truth_apart}
 use Rattle.spv_ids.specs.Ids.{used_ids}
 use Rattle.spv_norm.specs.Norm.{is_gone, namings, outside, stays_outside, staying}
-use Rattle.spv_texts.proofs.Functions.{behind_function, nothing_both, nothing_first, nothing_here, nothing_unless}
+use Rattle.spv_texts.proofs.Functions.{behind_function}
 use Rattle.spv_texts.proofs.Marks.{line_is_no_function}
 use Rattle.spv_norm_declared.proofs.Walks.{Walks, Ends, Goes_on, Goes, inst_of}
-
--- ---- what is kept along lines
-
--- each line breaks no rule, by what is kept of those before
-abbrev pub Lays : Layout → List (List ℕ) → Type 0
-Lays kept [] = Unit {0}
-Lays kept (w ∷ ws) = (kept_rules kept (inst_of w) ≡ []) × Lays (kept_behind kept (inst_of w)) ws
-
-abbrev pub kept_after : Layout → List (List ℕ) → Layout
-kept_after kept [] = kept
-kept_after kept (w ∷ ws) = kept_after (kept_behind kept (inst_of w)) ws
-
-lays_both : (kept : Layout) (xs ys : List (List ℕ)) → Lays kept xs → Lays (kept_after kept xs) ys → Lays kept (xs ++ ys)
-lays_both kept [] ys h g = g
-lays_both kept (x ∷ xs) ys h g = (h.0, lays_both (kept_behind kept (inst_of x)) xs ys h.1 g)
-
-lays_apart : (kept : Layout) (xs ys : List (List ℕ)) → Lays kept (xs ++ ys) → Lays kept xs × Lays (kept_after kept xs) ys
-lays_apart kept [] ys h = (tt, h)
-lays_apart kept (x ∷ xs) ys h = let more = lays_apart (kept_behind kept (inst_of x)) xs ys h.1 in ((h.0, more.0), more.1)
-
-after_both : (kept : Layout) (xs ys : List (List ℕ)) → kept_after kept (xs ++ ys) ≡ kept_after (kept_after kept xs) ys
-after_both kept [] ys = refl
-after_both kept (x ∷ xs) ys = after_both (kept_behind kept (inst_of x)) xs ys
-
--- what a module has, and where it ends
-pub record HasAll (kept : Layout) : Type 0 where
-  pub capability : kept.has_capability ≡ true
-  pub model : kept.has_memory_model ≡ true
-  pub entry : kept.has_entry_point ≡ true
-
--- ---- the rules on instructions, by what is kept
-
-push_in : (xs : List Instruction) (i : Instruction) (is : List Instruction) → (xs ++ i ∷ []) ++ is ≡ xs ++ i ∷ is
-push_in xs i is = append_assoc xs (i ∷ []) is
-
-summary_after : (kept : Layout) (before is : List Instruction) → Summarizes kept before → Summarizes (kept_after kept (words_of is)) (before ++ is)
-summary_after kept before [] s = subst (Summarizes kept) (sym (append-nil before)) s
-summary_after kept before (i ∷ is) s =
-    subst (Summarizes (kept_after kept (words_of (i ∷ is)))) (push_in before i is)
-    (summary_after (kept_behind kept i) (before ++ i ∷ []) is (summary-push kept before i s))
-
-lays_of : (kept : Layout) (before is : List Instruction) → Summarizes kept before → layout_from before is ≡ [] → Lays kept (words_of is)
-unfolding layout_from
-lays_of kept before [] s h = tt
-lays_of kept before (i ∷ is) s h =
-    let parts = nothing_both (here i.offset (layout_rules before i)) (layout_from (before ++ i ∷ []) is) h in (
-      kept_rules-summary kept before i s ∙ nothing_here i.offset (layout_rules before i) parts.left,
-      lays_of (kept_behind kept i) (before ++ i ∷ []) is (summary-push kept before i s) parts.right,
-    )
-
-of_lays : (kept : Layout) (before is : List Instruction) → Summarizes kept before → Lays kept (words_of is) → layout_from before is ≡ []
-unfolding layout_from
-of_lays kept before [] s h = refl
-of_lays kept before (i ∷ is) s h =
-    ap (λ rules. here i.offset rules ++ layout_from (before ++ i ∷ []) is) (sym (kept_rules-summary kept before i s) ∙ h.0)
-    ∙ of_lays (kept_behind kept i) (before ++ i ∷ []) is (summary-push kept before i s) h.1
-
-all_summary : (is : List Instruction) → Summarizes (kept_after nothing_kept (words_of is)) is
-all_summary is = summary_after nothing_kept [] is summary-nothing
-
-has_all : (kept : Layout) → kept_missing kept ≡ [] → HasAll kept
-has_all kept h =
-    let one = nothing_both (unless kept.has_capability 202) (unless kept.has_memory_model 203 ++ unless kept.has_entry_point 204) h in
-    let two = nothing_both (unless kept.has_memory_model 203) (unless kept.has_entry_point 204) one.right in
-    record {
-      capability = nothing_unless kept.has_capability 202 one.left;
-      model = nothing_unless kept.has_memory_model 203 two.left;
-      entry = nothing_unless kept.has_entry_point 204 two.right;
-    }
-
-none_missing : (kept : Layout) → HasAll kept → kept_missing kept ≡ []
-none_missing kept h =
-    ap (λ (b : Bool). unless b 202 ++ (unless kept.has_memory_model 203 ++ unless kept.has_entry_point 204)) h.capability
-    ∙ ap (λ (b : Bool). unless b 203 ++ unless kept.has_entry_point 204) h.model ∙ ap (λ (b : Bool). unless b 204) h.entry
-
--- instructions that are no line marks, lay well, and have what a module has
-pub laid_out : (end : ℕ) (is : List Instruction) → without_lines is ≡ is → Lays nothing_kept (words_of is) → HasAll (kept_after nothing_kept (words_of is))
-    → is_outside (kept_after nothing_kept (words_of is)).place ≡ true → first (group_2 end is) ≡ None
-laid_out end is bare lays all out =
-    let kept = kept_after nothing_kept (words_of is) in
-    let s = all_summary is in
-    let missing : missing_rules is ≡ [] = sym (kept_missing-summary kept is s) ∙ none_missing kept all in
-    let ends : end_rule is ≡ [] = ap (λ p. unless (is_outside p) 205) (sym s.place) ∙ ap (λ (b : Bool). unless b 205) out in
-    ap (λ z. first (here 5 (missing_rules z) ++ (layout_from [] z ++ here end (end_rule z)))) bare
-    ∙ ap (λ rules. first (here 5 rules ++ (layout_from [] is ++ here end (end_rule is)))) missing
-    ∙ ap (λ bs. first (bs ++ here end (end_rule is))) (of_lays nothing_kept [] is summary-nothing lays)
-    ∙ ap (λ rules. first (here end rules)) ends
-
--- and what is laid out, lays so
-pub record LaysWhole (is : List Instruction) : Type 0 where
-  pub lays : Lays nothing_kept (words_of is)
-  pub all : HasAll (kept_after nothing_kept (words_of is))
-  pub out : is_outside (kept_after nothing_kept (words_of is)).place ≡ true
-
-pub lays_whole : (end : ℕ) (insts : List Instruction) → first (group_2 end insts) ≡ None → LaysWhole (without_lines insts)
-lays_whole end insts h =
-    let is = without_lines insts in
-    let kept = kept_after nothing_kept (words_of is) in
-    let s = all_summary is in
-    let all = nothing_first (group_2 end insts) h in
-    let parts = nothing_both (here 5 (missing_rules is)) (layout_from [] is ++ here end (end_rule is)) all in
-    let last = nothing_both (layout_from [] is) (here end (end_rule is)) parts.right in
-    record {
-      lays = lays_of nothing_kept [] is summary-nothing last.left;
-      all = has_all kept (kept_missing-summary kept is s ∙ nothing_here 5 (missing_rules is) parts.left);
-      out = ap is_outside s.place ∙ nothing_unless (is_outside (place_behind is)) 205 (nothing_here end (end_rule is) last.right);
-    }
+use Rattle.spv_norm_declared.proofs.Laying.{HasAll, IsPlain, DropsPlain, Lays, LaysLess, LaysWhole, Passes, after_both, either_gives, kept_after, kept_lays, lays_apart, lays_both, lays_whole, less_or, nothing_less, or_false, passes, passing}
 
 -- ---- outside functions
-
--- what is kept is the same, but for a lower section
-pub record IsLess (k j : Layout) : Type 0 where
-  pub begun : k.begun ≡ j.begun
-  pub section : k.section ≤ j.section
-  pub capability : k.has_capability ≡ j.has_capability
-  pub model : k.has_memory_model ≡ j.has_memory_model
-  pub entry : k.has_entry_point ≡ j.has_entry_point
-  pub place : k.place ≡ j.place
-
-rules_none : (a b c : Bool) → a ≡ true → b ≡ true → c ≡ true → unless a 201 ++ (unless b 203 ++ unless c 205) ≡ []
-rules_none a b c h g k =
-    ap (λ (x : Bool). unless x 201 ++ (unless b 203 ++ unless c 205)) h ∙ ap (λ (x : Bool). unless x 203 ++ unless c 205) g
-    ∙ ap (λ (x : Bool). unless x 205) k
-
--- the tests that an instruction passes
-pub record Passes (kept : Layout) (i : Instruction) : Type 0 where
-  pub section : not (nat_lt (plain_section kept.begun i) kept.section) ≡ true
-  pub model : not (is_memory_model i && kept.has_memory_model) ≡ true
-  pub fits : fits_place kept.place (plain_section kept.begun i) i ≡ true
-
-passes : (kept : Layout) (i : Instruction) → kept_rules kept i ≡ [] → Passes kept i
-passes kept i h =
-    let a = not (nat_lt (plain_section kept.begun i) kept.section) in
-    let b = not (is_memory_model i && kept.has_memory_model) in
-    let c = fits_place kept.place (plain_section kept.begun i) i in
-    let one = nothing_both (unless a 201) (unless b 203 ++ unless c 205) h in
-    let two = nothing_both (unless b 203) (unless c 205) one.right in
-    record { section = nothing_unless a 201 one.left; model = nothing_unless b 203 two.left; fits = nothing_unless c 205 two.right }
-
-passing : (kept : Layout) (i : Instruction) → Passes kept i → kept_rules kept i ≡ []
-passing kept i p =
-    rules_none (not (nat_lt (plain_section kept.begun i) kept.section)) (not (is_memory_model i && kept.has_memory_model))
-    (fits_place kept.place (plain_section kept.begun i) i) p.section p.model p.fits
-
-still_not_below : (s m n : ℕ) → m ≤ n → not (nat_lt s n) ≡ true → not (nat_lt s m) ≡ true
-still_not_below s m n h g = grind (arith, nat_tests)
-
-less_rules : (k j : Layout) (i : Instruction) → IsLess k j → kept_rules j i ≡ [] → kept_rules k i ≡ []
-less_rules k j i l h =
-    let p = passes j i h in
-    passing k i (record {
-      section =
-          ap (λ (b : Bool). not (nat_lt (plain_section b i) k.section)) l.begun
-          ∙ still_not_below (plain_section j.begun i) k.section j.section l.section p.section;
-      model = ap (λ (b : Bool). not (is_memory_model i && b)) l.model ∙ p.model;
-      fits =
-          ap (λ (b : Bool). fits_place k.place (plain_section b i) i) l.begun ∙ ap (λ (q : Place). fits_place q (plain_section j.begun i) i) l.place ∙ p.fits;
-    })
-
-max_less : (m n s : ℕ) → m ≤ n → max m s ≤ max n s
-max_less m n s h = omega arith
-
-less_step : (k j : Layout) (i : Instruction) → IsLess k j → IsLess (kept_behind k i) (kept_behind j i)
-less_step k j i l = record {
-  begun = ap (λ (b : Bool). b || is_function i) l.begun;
-  section =
-      subst (λ b. max k.section (plain_section b i) ≤ max j.section (plain_section j.begun i)) (sym l.begun)
-      (max_less k.section j.section (plain_section j.begun i) l.section);
-  capability = ap (λ (b : Bool). b || is_capability i) l.capability;
-  model = ap (λ (b : Bool). b || is_memory_model i) l.model;
-  entry = ap (λ (b : Bool). b || is_entry_point i) l.entry;
-  place = ap (λ (q : Place). behind q i) l.place;
-}
-
--- an opcode that opens and ends nothing, and that a module need not have
-pub record IsPlain (o : ℕ) : Type 0 where
-  pub function : (o == op.FUNCTION) ≡ false
-  pub capability : (o == op.CAPABILITY) ≡ false
-  pub model : (o == op.MEMORY_MODEL) ≡ false
-  pub entry : (o == op.ENTRY_POINT) ≡ false
-  pub place : (p : Place) → cond (o == op.FUNCTION) Head
-      (cond (o == op.FUNCTION_END) Outside
-      (cond (o == op.LABEL) Inside
-      (cond (o == op.BRANCH || o == op.BRANCH_CONDITIONAL || o == op.SWITCH || o == op.RETURN || o == op.RETURN_VALUE || o == op.UNREACHABLE) Between p)))
-      ≡ p
-
-either_gives : {P : Type 0} (a b : Bool) → (a ≡ true → P) → (b ≡ true → P) → (a || b) ≡ true → P
-either_gives true b f g h = f refl
-either_gives false b f g h = g h
 
 naming_is_plain : (o : ℕ) → is_one_of namings o ≡ true → IsPlain o
 naming_is_plain o h =
@@ -227,54 +40,51 @@ naming_is_plain o h =
     is : (k : ℕ) → IsPlain k → nat_eq o k ≡ true → IsPlain o
     is k p e = subst IsPlain (sym (equal_true o k e)) p
 
-or_false : (a b : Bool) → b ≡ false → a ≡ (a || b)
-or_false true b h = refl
-or_false false b h = sym h
-
-less_or : (m n s : ℕ) → m ≤ n → m ≤ max n s
-less_or m n s h = omega arith
-
--- one that goes changes nothing else
-less_gone : (k j : Layout) (i : Instruction) → IsLess k j → IsPlain (opcode i) → IsLess k (kept_behind j i)
-less_gone k j i l p = record {
-  begun = l.begun ∙ or_false j.begun (is_function i) p.function;
-  section = less_or k.section j.section (plain_section j.begun i) l.section;
-  capability = l.capability ∙ or_false j.has_capability (is_capability i) p.capability;
-  model = l.model ∙ or_false j.has_memory_model (is_memory_model i) p.model;
-  entry = l.entry ∙ or_false j.has_entry_point (is_entry_point i) p.entry;
-  place = l.place ∙ sym (p.place j.place);
-}
-
 not_gone : (naming gone : Bool) → not (naming && gone) ≡ false → naming ≡ true
 not_gone true gone h = refl
 not_gone false gone h = absurd (cc h)
 
-pub record LaysLess (k j : Layout) (ws vs : List (List ℕ)) : Type 0 where
-  pub lays : Lays k ws
-  pub less : IsLess (kept_after k ws) (kept_after j vs)
+-- none of what stays is a line mark
 
--- some instructions outside functions, and those of them that stay; induction on the instructions
-staying_lays : (insts : List Instruction) (k j : Layout) (is : List Instruction) → IsLess k j → Lays j (words_of (without_lines is))
-    → LaysLess k j (words_of (filter (stays_outside insts) is)) (words_of (without_lines is))
-staying_lays insts k j [] l h = record { lays = tt; less = l }
-staying_lays insts k j (i ∷ is) l h =
-    by (is_line i) (not (is_one_of namings (opcode i) && list_any (is_gone insts) (used_ids i))) refl h
-    (λ p q m g. staying_lays insts p q is m g)
+abbrev pub AreBare : List (List ℕ) → Type 0
+AreBare ws = AllByRecursion (λ w. is_line (inst_of w) ≡ false) ws
+
+not_both : (line other : Bool) → (not line && other) ≡ true → line ≡ false
+not_both true other h = absurd (cc h)
+not_both false other h = refl
+
+stays_bare : (insts is : List Instruction) → AreBare (words_of (filter (stays_outside insts) is))
+stays_bare insts [] = tt
+stays_bare insts (i ∷ is) = by (stays_outside insts i) refl (stays_bare insts is)
   where
-    by : (line stays : Bool) → not (is_one_of namings (opcode i) && list_any (is_gone insts) (used_ids i)) ≡ stays
-        → Lays j (words_of (cond (not line) (i ∷ without_lines is) (without_lines is)))
-        → ((p q : Layout) → IsLess p q → Lays q (words_of (without_lines is))
-        → LaysLess p q (words_of (filter (stays_outside insts) is)) (words_of (without_lines is)))
-        → LaysLess k j (words_of (cond (not line && stays) (i ∷ filter (stays_outside insts) is) (filter (stays_outside insts) is)))
-        (words_of (cond (not line) (i ∷ without_lines is) (without_lines is)))
-    by true stays e h more = more k j l h
-    by false true e h more =
-        let later = more (kept_behind k i) (kept_behind j i) (less_step k j i l) h.1 in
-        record { lays = (less_rules k j i l h.0, later.lays); less = later.less }
-    by false false e h more =
-        let naming = not_gone (is_one_of namings (opcode i)) (list_any (is_gone insts) (used_ids i)) e in
-        let later = more k (kept_behind j i) (less_gone k j i l (naming_is_plain (opcode i) naming)) h.1 in
-        record { lays = later.lays; less = later.less }
+    by : (b : Bool) → stays_outside insts i ≡ b → AreBare (words_of (filter (stays_outside insts) is))
+        → AreBare (words_of (cond b (i ∷ filter (stays_outside insts) is) (filter (stays_outside insts) is)))
+    by true e more = (not_both (is_line i) (not (is_one_of namings (opcode i) && list_any (is_gone insts) (used_ids i))) e, more)
+    by false e more = more
+
+-- instructions of such words
+pub without_none : (is : List Instruction) → AreBare (words_of is) → without_lines is ≡ is
+without_none [] h = refl
+without_none (i ∷ is) h =
+    ap (λ (b : Bool). cond (not b) (i ∷ without_lines is) (without_lines is)) h.0 ∙ ap (λ z. i ∷ z) (without_none is h.1)
+
+-- some instructions outside functions, and those of them that stay
+staying_lays : (insts : List Instruction) (is : List Instruction) → Lays nothing_kept (words_of (without_lines is))
+    → LaysLess nothing_kept nothing_kept (words_of (filter (stays_outside insts) is)) (words_of (without_lines is))
+staying_lays insts is h =
+    subst (λ z. LaysLess nothing_kept nothing_kept (words_of z) (words_of (without_lines is)))
+    (without_none (filter (stays_outside insts) is) (stays_bare insts is))
+    (kept_lays (stays_outside insts) nothing_kept nothing_kept is (plain is) nothing_less h)
+  where
+    plain : (is : List Instruction) → DropsPlain (stays_outside insts) is
+    plain [] = tt
+    plain (i ∷ is) = (
+      λ e m.
+          naming_is_plain (opcode i)
+          (not_gone (is_one_of namings (opcode i)) (list_any (is_gone insts) (used_ids i))
+          (sym (ap (λ (b : Bool). not b && not (is_one_of namings (opcode i) && list_any (is_gone insts) (used_ids i))) m) ∙ e)),
+      plain is,
+    )
 
 -- ---- from the first function on
 
@@ -650,8 +460,7 @@ module _ (end : ℕ) (insts : List Instruction) (laid : first (group_2 end insts
 
   stays : LaysLess nothing_kept nothing_kept (words_of (staying insts)) (words_of before)
   stays =
-      staying_lays insts nothing_kept nothing_kept (outside insts)
-      (record { begun = refl; section = omega arith; capability = refl; model = refl; entry = refl; place = refl }) both.0
+      staying_lays insts (outside insts) both.0
 
   abbrev stay : List (List ℕ)
   stay = words_of (staying insts)
@@ -700,9 +509,6 @@ bare_line w e =
     let l = is_late (opcode_in w) (eleven (plain_section true (inst_of w)) e) in
     ap (λ (b : Bool). b || opcode_in w == op.NO_LINE) l.line ∙ l.no_line
 
-abbrev pub AreBare : List (List ℕ) → Type 0
-AreBare ws = AllByRecursion (λ w. is_line (inst_of w) ≡ false) ws
-
 bare_both : (xs ys : List (List ℕ)) → AreBare xs → AreBare ys → AreBare (xs ++ ys)
 bare_both [] ys h g = g
 bare_both (x ∷ xs) ys h g = (h.0, bare_both xs ys h.1 g)
@@ -727,27 +533,8 @@ functions_bare F a (suc n) each =
     one_later : (n k : ℕ) → n + suc k ≡ (n + 1) + k
     one_later n k = omega arith
 
-not_both : (line other : Bool) → (not line && other) ≡ true → line ≡ false
-not_both true other h = absurd (cc h)
-not_both false other h = refl
-
-stays_bare : (insts is : List Instruction) → AreBare (words_of (filter (stays_outside insts) is))
-stays_bare insts [] = tt
-stays_bare insts (i ∷ is) = by (stays_outside insts i) refl (stays_bare insts is)
-  where
-    by : (b : Bool) → stays_outside insts i ≡ b → AreBare (words_of (filter (stays_outside insts) is))
-        → AreBare (words_of (cond b (i ∷ filter (stays_outside insts) is) (filter (stays_outside insts) is)))
-    by true e more = (not_both (is_line i) (not (is_one_of namings (opcode i) && list_any (is_gone insts) (used_ids i))) e, more)
-    by false e more = more
-
 pub norm_bare : (insts : List Instruction) (F : ℕ → List (List ℕ)) → ((j : ℕ) → j < count_by is_function insts → IsFunction (F (0 + j)))
     → AreBare (words_of (staying insts) ++ flat_map F (range_with_len 0 (count_by is_function insts)))
 norm_bare insts F each =
     bare_both (words_of (staying insts)) (flat_map F (range_with_len 0 (count_by is_function insts))) (stays_bare insts (outside insts))
     (functions_bare F 0 (count_by is_function insts) each)
-
--- instructions of such words
-pub without_none : (is : List Instruction) → AreBare (words_of is) → without_lines is ≡ is
-without_none [] h = refl
-without_none (i ∷ is) h =
-    ap (λ (b : Bool). cond (not b) (i ∷ without_lines is) (without_lines is)) h.0 ∙ ap (λ z. i ∷ z) (without_none is h.1)

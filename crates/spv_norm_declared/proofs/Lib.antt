@@ -4,6 +4,7 @@ pub mod PhiPairs
 pub mod FunctionLines
 pub mod CutAgain
 pub mod Walks
+pub mod Laying
 pub mod LaidOut
 pub mod Whole
 pub mod Definitions

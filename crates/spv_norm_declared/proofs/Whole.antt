@@ -24,7 +24,8 @@ use Rattle.spv_norm_declared.proofs.Instructions.{Are, IsUnbroken, LinesAre, eac
 use Rattle.spv_norm_declared.proofs.FunctionLines.{all_both, all_filter, all_of_function, function_fine, functions_have}
 use Rattle.spv_norm_declared.proofs.CutAgain.{IsRead, counted_of, group_2_none, group_none, is_read}
 use Rattle.spv_norm_declared.proofs.Walks.{behind_first, function_walks, opens}
-use Rattle.spv_norm_declared.proofs.LaidOut.{AreBare, IsFunction, LaysFully, laid_out, norm_bare, norm_lays, without_none}
+use Rattle.spv_norm_declared.proofs.LaidOut.{AreBare, IsFunction, LaysFully, norm_bare, norm_lays, without_none}
+use Rattle.spv_norm_declared.proofs.Laying.{laid_out}
 
 -- ---- instructions below their own bound
 

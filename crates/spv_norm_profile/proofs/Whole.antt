@@ -29,9 +29,11 @@ use Rattle.spv_norm_declared.proofs.Instructions.{each_instruction}
 use Rattle.spv_norm_declared.proofs.Once.{norm_defines_once}
 use Rattle.spv_norm_declared.proofs.Whole.{norm_is_cut_again, norm_is_decoded, norm_is_laid_out, norm_lines_are_instructions}
 use Rattle.spv_norm_structured.specs.Laws.{IsNormAgain, IsReadAsTrees}
+use Rattle.spv_norm_structured.proofs.Again.{count_again}
 use Rattle.spv_norm_structured.proofs.Depths.{norm_is_shallow}
 use Rattle.spv_norm_structured.proofs.Normal.{norm_stays}
 use Rattle.spv_norm_structured.proofs.Pointers.{norm_is_unbroken}
+use Rattle.spv_norm_structured.proofs.Trees as trees
 use Rattle.spv_alike.specs.Alike.{AreAlike}
 use Rattle.spv_alike.specs.Uses.{UsesNoLabels}
 use Rattle.spv_norm_alike.proofs.Whole.{norm_is_alike}
@@ -49,7 +51,7 @@ use Rattle.spv_norm_entries.proofs.Entered.{norm_is_entered}
 use Rattle.spv_norm_exits.specs.Laws.{IsUncrowded}
 use Rattle.spv_norm_exits.proofs.Whole.{norm_is_uncrowded}
 use Rattle.spv_profile.specs.Profile.{IsInProfile, IsModule}
-use Rattle.spv_norm_profile.specs.Laws.{NormIsModule}
+use Rattle.spv_norm_profile.specs.Laws.{NormIsModule, NormIsParsed}
 use Rattle.spv_norm_profile.proofs.Entered.{each_entered, none_listed}
 use Rattle.spv_norm_profile.proofs.Words.{same_bound, same_instructions, same_spelling}
 
@@ -229,5 +231,11 @@ module _ (words : List ℕ) (bodies : List Body) (norm : Code) (p : IsInProfile 
     normal = record { lines = sym (norm_stays insts again bodies read norm_again); header = header_again };
   }
 
+  parsed_again : AreParsed again bodies
+  parsed_again = record { count = sym (count_again insts again bodies read norm_again); each = trees.norm_is_parsed insts again bodies read norm_again }
+
 pub norm_is_module : NormIsModule
 norm_is_module words bodies norm p parsed n = module_again words bodies norm p parsed n
+
+pub norm_is_parsed : NormIsParsed
+norm_is_parsed words bodies norm p parsed n = parsed_again words bodies norm p parsed n

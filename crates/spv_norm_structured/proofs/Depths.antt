@@ -100,12 +100,12 @@ module _ (insts again : List Instruction) (bodies : List Body) (k : ℕ) (a : Is
   abbrev new : List Instruction
   new = function_insts k again
 
-  old_depth : IsDepth (blocks_of old) (Walk (blocks_of old)) (depth (body_of a.body).body)
+  pub old_depth : IsDepth (blocks_of old) (Walk (blocks_of old)) (depth (body_of a.body).body)
   old_depth =
       subst (λ z. IsDepth z (Walk z) (depth (body_of a.body).body)) (blocks_without_marks old)
       (tree_depth (without_marks old) a.tree.parsed.spelled.stays (body_of a.body) a.tree.parsed.spelled.admitted a.tree.parsed.spelled.spells)
 
-  new_depth : IsDepth (blocks_of new) (Walk (blocks_of new)) (depth (body_of a.body).body)
+  pub new_depth : IsDepth (blocks_of new) (Walk (blocks_of new)) (depth (body_of a.body).body)
   new_depth =
       let s = a.tree.parsed.spelled in
       tree_depth new (λ l. l) (body_of a.body)

@@ -4,3 +4,4 @@ pub mod Labels
 pub mod Normal
 pub mod Pointers
 pub mod Depths
+pub mod Trees

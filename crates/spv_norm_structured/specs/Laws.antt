@@ -61,3 +61,9 @@ NormIsNormal = (insts again : List Instruction) (bodies : List Body) → IsReadA
 abbrev pub NormStays : Type 0
 NormStays =
     (insts again : List Instruction) (bodies : List Body) → IsReadAsTrees insts bodies → IsNormAgain insts again → norm_lines again ≡ words_of again
+
+-- and each of its functions is read as the tree that the module's function is read as
+abbrev pub NormIsParsed : Type 0
+NormIsParsed =
+    (insts again : List Instruction) (bodies : List Body) → IsReadAsTrees insts bodies → IsNormAgain insts again
+    → (k : ℕ) (body : Body) → slice_get bodies k ≡ Some body → IsTree (is_pointer again) (function_insts k again) body

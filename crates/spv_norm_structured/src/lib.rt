@@ -4,7 +4,7 @@
 //! over them as its contract, and does nothing when it is called.
 #![tactic(auto)]
 
-ghost use Rattle.spv_norm_structured.specs.Laws.{FunctionsAgain, NormIsNormal, NormIsShallow, NormIsUnbroken, NormStays};
+ghost use Rattle.spv_norm_structured.specs.Laws.{FunctionsAgain, NormIsNormal, NormIsParsed, NormIsShallow, NormIsUnbroken, NormStays};
 
 /// The functions of a module's normal form are the normal forms of the module's functions, and it is its own normal form.
 pub fn normal_law()
@@ -13,8 +13,10 @@ pub fn normal_law()
     ensures stays { NormStays }
 {}
 
-/// No function of a module's normal form breaks a rule on structured control flow, and none nests too deep.
+/// No function of a module's normal form breaks a rule on structured control flow, and none nests too deep: it is read as the
+/// tree that the module's function is read as.
 pub fn structured_law()
     ensures unbroken { NormIsUnbroken }
     ensures shallow { NormIsShallow }
+    ensures parsed { NormIsParsed }
 {}
