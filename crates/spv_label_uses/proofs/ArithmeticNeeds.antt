@@ -16,7 +16,7 @@ use Rattle.spv_label_uses.proofs.Covered.{used_by_row}
 use Rattle.spv_label_uses.proofs.Free.{same_by, all_cons, is_free}
 use Rattle.spv_label_uses.proofs.Fronts.{used_by_front}
 use Rattle.spv_label_uses.proofs.Operations.{found_pair}
-use Rattle.spv_label_uses.proofs.Types.{NeedsNoLabel}
+use Rattle.spv_label_uses.proofs.Types.{NeedsFree}
 
 -- ---- words by their places
 
@@ -33,11 +33,11 @@ behind_five (a ∷ b ∷ c ∷ ws) = refl
 
 -- ---- by the form
 
--- a terminator decides by a value, and all that another one needs is no label
+-- a terminator decides by a value, and all that another one needs is free
 abbrev pub Needs : List Instruction → Form → Instruction → Type 0
 Needs insts Branches i = is_free insts (slice_index i.words 1) ≡ true
 Needs insts Switches i = is_free insts (slice_index i.words 1) ≡ true
-Needs insts form i = NeedsNoLabel insts i
+Needs insts form i = NeedsFree insts i
 
 -- an instruction of a form, which suits it
 record Suits (insts : List Instruction) (form : Form) (i : Instruction) : Type 0 where
@@ -47,13 +47,13 @@ record Suits (insts : List Instruction) (form : Form) (i : Instruction) : Type 0
 
 typed_needs : (insts : List Instruction) (i : Instruction) → IsInstruction i.words (roles i)
     → (not (opcode i == op.SPEC_CONSTANT_OP) && row_test first_typed (row_of (opcode i))) ≡ true → is_free insts (slice_index i.words 1) ≡ true
-    → list_all (is_free insts) (drop 3 i.words) ≡ true → NeedsNoLabel insts i
+    → list_all (is_free insts) (drop 3 i.words) ≡ true → NeedsFree insts i
 typed_needs insts i whole row t ids =
     let tests = and_parts (not (opcode i == op.SPEC_CONSTANT_OP)) (row_test first_typed (row_of (opcode i))) row in
     used_by_front (is_free insts) 2 i (opcode i) whole refl (not-true (opcode i == op.SPEC_CONSTANT_OP) tests.0)
     (ap (list_all (is_free insts)) (typed_row (opcode i) tests.1 i.words) ∙ all_cons (is_free insts) (slice_index i.words 1) (drop 3 i.words) t ids)
 
-extended_needs : (insts : List Instruction) (i : Instruction) → Suits insts Extended i → opcode i ≡ op.EXT_INST → NeedsNoLabel insts i
+extended_needs : (insts : List Instruction) (i : Instruction) → Suits insts Extended i → opcode i ≡ op.EXT_INST → NeedsFree insts i
 extended_needs insts i s e =
     let t : ℕ = slice_index i.words 1 in
     let set : ℕ = slice_index i.words 3 in

@@ -1,4 +1,4 @@
--- No instruction needs a label: kind by kind of opcodes.
+-- No instruction needs a label or a string as a value: kind by kind of opcodes.
 use Rattle.std.proofs.Common.{◌≡◌, ℕ, Bool, true, false, not, ◌==◌, ◌&&◌, ◌||◌, List, [], ◌∷◌, ◌++◌, take, refl, sym, ap, ◌∙◌}
 use Rattle.std.specs.Prelude.{nat_lt}
 use Rattle.std.specs.List.{list_any, list_all, slice_index}
@@ -28,17 +28,17 @@ use Rattle.spv_label_uses.proofs.Parts.{construct_needs, extract_needs, insert_n
 use Rattle.spv_label_uses.proofs.Rules as rules
 use Rattle.spv_label_uses.proofs.Signatures as signatures
 use Rattle.spv_label_uses.proofs.Sorted.{nothing, silent, silent_rows, types, outside, constants, either, functions, parts, memory}
-use Rattle.spv_label_uses.proofs.Types.{NeedsNoLabel, vector_needs, array_needs, runtime_array_needs, struct_needs, pointer_needs, function_needs}
+use Rattle.spv_label_uses.proofs.Types.{NeedsFree, vector_needs, array_needs, runtime_array_needs, struct_needs, pointer_needs, function_needs}
 use Rattle.spv_label_uses.proofs.Variables.{local_needs}
 
 -- by the opcode, which is one of some
 pub by_opcode : {P : Type 0} (i : Instruction) (os : List ℕ) → AllOf (λ o. opcode i ≡ o → P) os → is_one_of os (opcode i) ≡ true → P
 by_opcode {P} i os each m = of_one (λ o. opcode i ≡ o → P) os (opcode i) each m refl
 
-pub silent_need : (insts : List Instruction) (i : Instruction) → IsInstruction i.words (roles i) → is_one_of silent (opcode i) ≡ true → NeedsNoLabel insts i
+pub silent_need : (insts : List Instruction) (i : Instruction) → IsInstruction i.words (roles i) → is_one_of silent (opcode i) ≡ true → NeedsFree insts i
 silent_need insts i whole m = needs (is_free insts) silent nothing silent_rows refl i whole m refl
 
-pub types_need : (insts : List Instruction) (k : ℕ) (i : Instruction) → Known insts k i → is_one_of types (opcode i) ≡ true → NeedsNoLabel insts i
+pub types_need : (insts : List Instruction) (k : ℕ) (i : Instruction) → Known insts k i → is_one_of types (opcode i) ≡ true → NeedsFree insts i
 types_need insts k i h m =
     by_opcode i types
     (also (λ e. vector_needs insts i h.whole e h.declared.types)
@@ -48,7 +48,7 @@ types_need insts k i h m =
     (also (λ e. pointer_needs insts i h.whole e h.declared.types)
     (also (λ e. function_needs insts i h.whole e h.declared.types) tt)))))) m
 
-pub outside_need : (insts : List Instruction) (k : ℕ) (i : Instruction) → Known insts k i → is_one_of outside (opcode i) ≡ true → NeedsNoLabel insts i
+pub outside_need : (insts : List Instruction) (k : ℕ) (i : Instruction) → Known insts k i → is_one_of outside (opcode i) ≡ true → NeedsFree insts i
 outside_need insts k i h m =
     let entry = h.entries k i h.there in
     by_opcode i outside
@@ -74,7 +74,7 @@ constant_there : (insts : List Instruction) (k : ℕ) (i : Instruction) → Know
 constant_there insts k i h none =
     either_fits (declared_before insts k).begun (constant_fits insts (declared_before insts k) i) h.declared.constants (h.begun ∙ none)
 
-pub constants_need : (insts : List Instruction) (k : ℕ) (i : Instruction) → Known insts k i → is_one_of constants (opcode i) ≡ true → NeedsNoLabel insts i
+pub constants_need : (insts : List Instruction) (k : ℕ) (i : Instruction) → Known insts k i → is_one_of constants (opcode i) ≡ true → NeedsFree insts i
 constants_need insts k i h m =
     let tests = and_parts (not (stands_in_functions_too i)) (nat_lt (row_section (row_of (opcode i))) 11)
     (one_passes (λ o. not (o == op.VARIABLE || o == op.UNDEF) && nat_lt (row_section (row_of o)) 11) constants (opcode i) constants_first m) in
@@ -93,7 +93,7 @@ constants_need insts k i h m =
 
     by : (b n c : Bool) → is_one_of constant.booleans (opcode i) ≡ b → is_one_of constant.numbers (opcode i) ≡ n
         → is_one_of constant.composites (opcode i) ≡ c
-        → constant_fits insts (declared_before insts k) i ≡ true → NeedsNoLabel insts i
+        → constant_fits insts (declared_before insts k) i ≡ true → NeedsFree insts i
     by true n c hb hn hc fits = constant.boolean_needs insts (declared_before insts k) i h.whole hb fits
     by false true c hb hn hc fits = constant.number_needs insts (declared_before insts k) i h.whole hn fits
     by false false true hb hn hc fits = constant.composite_needs insts (declared_before insts k) i h.whole hc fits
@@ -109,12 +109,12 @@ undefined_inside : (insts : List Instruction) (i : Instruction) → opcode i ≡
 unfolding composite_result_fits
 undefined_inside insts i e h = rw e at h
 
-pub either_need : (insts : List Instruction) (k : ℕ) (i : Instruction) → Known insts k i → is_one_of either (opcode i) ≡ true → NeedsNoLabel insts i
+pub either_need : (insts : List Instruction) (k : ℕ) (i : Instruction) → Known insts k i → is_one_of either (opcode i) ≡ true → NeedsFree insts i
 either_need insts k i h m = by (list_any is_function (take k insts)) refl where
   body : list_any is_function (take k insts) ≡ true → rules.Keeps insts k i
   body b = h.body (ap (λ c. c || is_function i) b)
 
-  by : (b : Bool) → list_any is_function (take k insts) ≡ b → NeedsNoLabel insts i
+  by : (b : Bool) → list_any is_function (take k insts) ≡ b → NeedsFree insts i
   by true b =
       by_opcode i either
       (also (λ e. local_needs insts k i h.whole e b (body b).storage)
@@ -139,7 +139,7 @@ inner_body : (insts : List Instruction) (k : ℕ) (i : Instruction) → Known in
 inner_body insts k i h m =
     body_of insts k i h (not-true (stands_outside (opcode i)) (one_passes (λ o. not (stands_outside o)) inner (opcode i) functions_inside m))
 
-pub functions_need : (insts : List Instruction) (k : ℕ) (i : Instruction) → Known insts k i → is_one_of functions (opcode i) ≡ true → NeedsNoLabel insts i
+pub functions_need : (insts : List Instruction) (k : ℕ) (i : Instruction) → Known insts k i → is_one_of functions (opcode i) ≡ true → NeedsFree insts i
 functions_need insts k i h m =
     let begins : opcode i ≡ op.FUNCTION → rules.Keeps insts k i =
     λ e. h.body (any_second (list_any is_function (take k insts)) (is_function i) (ap (λ o. o == op.FUNCTION) e)) in
@@ -151,7 +151,7 @@ functions_need insts k i h m =
     (body (ap (is_one_of inner) e)).result)
     (also (λ e. signatures.return_needs insts (result_type_at insts k) i h.whole e (body (ap (is_one_of inner) e)).returns) tt)))) m
 
-pub parts_need : (insts : List Instruction) (k : ℕ) (i : Instruction) → Known insts k i → is_one_of parts (opcode i) ≡ true → NeedsNoLabel insts i
+pub parts_need : (insts : List Instruction) (k : ℕ) (i : Instruction) → Known insts k i → is_one_of parts (opcode i) ≡ true → NeedsFree insts i
 parts_need insts k i h m =
     let body = inner_body insts k i h (one_passes (is_one_of inner) parts (opcode i) refl m) in
     by_opcode i parts
@@ -164,7 +164,7 @@ parts_need insts k i h m =
     (also (λ e. copy_needs insts i h.whole e body.composites body.composite_results)
     (also (λ e. copy_logical_needs insts h.unbroken i h.whole e body.composites) tt)))))))) m
 
-pub memory_need : (insts : List Instruction) (k : ℕ) (i : Instruction) → Known insts k i → is_one_of memory (opcode i) ≡ true → NeedsNoLabel insts i
+pub memory_need : (insts : List Instruction) (k : ℕ) (i : Instruction) → Known insts k i → is_one_of memory (opcode i) ≡ true → NeedsFree insts i
 memory_need insts k i h m =
     let body = inner_body insts k i h (one_passes (is_one_of inner) memory (opcode i) refl m) in
     by_opcode i memory
@@ -176,12 +176,12 @@ memory_need insts k i h m =
     (also (λ e. memories.atomic_store_needs insts i h.whole e body.atomics body.ordering)
     (also (λ e. memories.exchange_needs insts i h.whole e body.atomics body.atomic_results body.ordering) tt))))))) m
 
-pub chains_need : (insts : List Instruction) (k : ℕ) (i : Instruction) → Known insts k i → is_one_of memories.chains (opcode i) ≡ true → NeedsNoLabel insts i
+pub chains_need : (insts : List Instruction) (k : ℕ) (i : Instruction) → Known insts k i → is_one_of memories.chains (opcode i) ≡ true → NeedsFree insts i
 chains_need insts k i h m =
     let body = inner_body insts k i h (one_passes (is_one_of inner) memories.chains (opcode i) refl m) in
     memories.chain_needs insts i h.whole m body.memory body.memory_results
 
-pub atomics_need : (insts : List Instruction) (k : ℕ) (i : Instruction) → Known insts k i → is_one_of atomics (opcode i) ≡ true → NeedsNoLabel insts i
+pub atomics_need : (insts : List Instruction) (k : ℕ) (i : Instruction) → Known insts k i → is_one_of atomics (opcode i) ≡ true → NeedsFree insts i
 atomics_need insts k i h m =
     let body = inner_body insts k i h (one_passes (is_one_of inner) atomics (opcode i) refl m) in
     memories.atomic_needs insts i h.whole m body.atomics body.atomic_results body.ordering

@@ -12,7 +12,7 @@ use Rattle.spv_composites.specs.Vectors.{as_vector, vector_type, takes_component
 use Rattle.spv_declarations.specs.Laws.{IsUnbroken}
 use Rattle.spv_label_uses.proofs.Covered.{used_by_row}
 use Rattle.spv_label_uses.proofs.Free.{same_by, all_3, all_4, is_free, free_kind, free_made, free_is_value, free_value_of, free_ints}
-use Rattle.spv_label_uses.proofs.Types.{NeedsNoLabel, free_component}
+use Rattle.spv_label_uses.proofs.Types.{NeedsFree, free_component}
 
 -- ---- vectors
 
@@ -45,7 +45,7 @@ free_component_type insts unbroken v t h = by (vector_type insts v) refl h where
 
 pub extract_dynamic_needs : (insts : List Instruction) → IsUnbroken insts → (i : Instruction) → IsInstruction i.words (roles i)
     → opcode i ≡ op.VECTOR_EXTRACT_DYNAMIC
-    → vector_operands_fit insts i ≡ true → vector_result_fits insts i ≡ true → NeedsNoLabel insts i
+    → vector_operands_fit insts i ≡ true → vector_result_fits insts i ≡ true → NeedsFree insts i
 unfolding row_of vector_operands_fit vector_result_fits
 extract_dynamic_needs insts unbroken i whole e h k =
     let t : ℕ = slice_index i.words 1 in
@@ -64,7 +64,7 @@ free_component_for insts t id h = by (is_vector insts t) h where
   by false h = free_is_value insts id h
 
 pub insert_dynamic_needs : (insts : List Instruction) (i : Instruction) → IsInstruction i.words (roles i) → opcode i ≡ op.VECTOR_INSERT_DYNAMIC
-    → vector_operands_fit insts i ≡ true → vector_result_fits insts i ≡ true → NeedsNoLabel insts i
+    → vector_operands_fit insts i ≡ true → vector_result_fits insts i ≡ true → NeedsFree insts i
 unfolding row_of vector_operands_fit vector_result_fits
 insert_dynamic_needs insts i whole e h k =
     let t : ℕ = slice_index i.words 1 in
@@ -89,7 +89,7 @@ shuffled_free insts t a b literals h = by (vector_type insts a) refl h where
   by (Some u) e h = (free_vector insts a (ap is_some e), if_vector insts b (λ w. shuffles_types insts t u w literals) h)
 
 pub shuffle_needs : (insts : List Instruction) (i : Instruction) → IsInstruction i.words (roles i) → opcode i ≡ op.VECTOR_SHUFFLE
-    → vector_operands_fit insts i ≡ true → vector_result_fits insts i ≡ true → NeedsNoLabel insts i
+    → vector_operands_fit insts i ≡ true → vector_result_fits insts i ≡ true → NeedsFree insts i
 unfolding row_of vector_operands_fit vector_result_fits
 shuffle_needs insts i whole e h k =
     let t : ℕ = slice_index i.words 1 in

@@ -10,7 +10,7 @@ use Rattle.spv_declarations.specs.Constants.{are_of, has_length, composite_fits,
 use Rattle.spv_declarations.specs.Declarations.{Declared}
 use Rattle.spv_label_uses.proofs.Free.{or_cases, all_1, all_cons, all_weaker, is_free, free_kind, free_closed, free_typed, one_passes, same_by}
 use Rattle.spv_label_uses.proofs.Groups.{AllOf, also, MayNeed, needs}
-use Rattle.spv_label_uses.proofs.Types.{NeedsNoLabel}
+use Rattle.spv_label_uses.proofs.Types.{NeedsFree}
 
 -- ---- of a type alone
 
@@ -36,7 +36,7 @@ unfolding row_of
 plain_rows = also (λ ws. refl) (also (λ ws. refl) tt)
 
 pub boolean_needs : (insts : List Instruction) (d : Declared) (i : Instruction) → IsInstruction i.words (roles i) → is_one_of booleans (opcode i) ≡ true
-    → constant_fits insts d i ≡ true → NeedsNoLabel insts i
+    → constant_fits insts d i ≡ true → NeedsFree insts i
 boolean_needs insts d i whole m h =
     let fits : is_bool insts (slice_index i.words 1) ≡ true = rw m at h in
     needs (is_free insts) booleans type_only boolean_rows refl i whole m
@@ -47,7 +47,7 @@ pub not_in : (os others : List ℕ) (o : ℕ) → list_all (λ o. not (is_one_of
 not_in os others o apart h = not-true (is_one_of others o) (one_passes (λ o. not (is_one_of others o)) os o apart h)
 
 pub number_needs : (insts : List Instruction) (d : Declared) (i : Instruction) → IsInstruction i.words (roles i) → is_one_of numbers (opcode i) ≡ true
-    → constant_fits insts d i ≡ true → NeedsNoLabel insts i
+    → constant_fits insts d i ≡ true → NeedsFree insts i
 number_needs insts d i whole m h =
     let no_boolean = not_in numbers booleans (opcode i) refl m in
     let fits : (is_int insts (slice_index i.words 1) && length (drop 3 i.words) == 1) ≡ true = rw (no_boolean, m) at h in
@@ -57,7 +57,7 @@ number_needs insts d i whole m h =
 
 pub closed_needs : (insts : List Instruction) (i : Instruction) → IsInstruction i.words (roles i)
     → is_one_of (op.CONSTANT_NULL ∷ op.UNDEF ∷ []) (opcode i) ≡ true
-    → is_closed insts (slice_index i.words 1) ≡ true → NeedsNoLabel insts i
+    → is_closed insts (slice_index i.words 1) ≡ true → NeedsFree insts i
 closed_needs insts i whole m h =
     needs (is_free insts) (op.CONSTANT_NULL ∷ op.UNDEF ∷ []) type_only plain_rows refl i whole m
     (all_1 (is_free insts) (slice_index i.words 1) (free_closed insts (slice_index i.words 1) h))
@@ -133,7 +133,7 @@ composite_fits_there insts d i m h =
     special e h = rw e at h
 
 pub composite_needs : (insts : List Instruction) (d : Declared) (i : Instruction) → IsInstruction i.words (roles i) → is_one_of composites (opcode i) ≡ true
-    → constant_fits insts d i ≡ true → NeedsNoLabel insts i
+    → constant_fits insts d i ≡ true → NeedsFree insts i
 composite_needs insts d i whole m h =
     needs (is_free insts) composites type_and_parts composite_rows refl i whole m
     (free_composite insts d (slice_index i.words 1) (drop 3 i.words) (composite_fits_there insts d i m h))

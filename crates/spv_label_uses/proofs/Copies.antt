@@ -21,13 +21,13 @@ use Rattle.spv_declarations.proofs.Parts.{defined-plain, first_plain, row_test}
 use Rattle.spv_declarations.proofs.Sites.{index-on}
 use Rattle.spv_label_uses.proofs.Covered.{used_by_row}
 use Rattle.spv_label_uses.proofs.Declared.{kept_at}
-use Rattle.spv_label_uses.proofs.Free.{same_by, one_passes, all_2, all_cons, is_free, free_closed, free_if, free_value_of}
-use Rattle.spv_label_uses.proofs.Types.{NeedsNoLabel}
+use Rattle.spv_label_uses.proofs.Free.{same_by, one_passes, all_2, all_cons, is_free, valueless, free_closed, free_if, free_value_of}
+use Rattle.spv_label_uses.proofs.Types.{NeedsFree}
 
 -- ---- copies
 
 pub copy_needs : (insts : List Instruction) (i : Instruction) → IsInstruction i.words (roles i) → opcode i ≡ op.COPY_OBJECT
-    → composite_operands_fit insts i ≡ true → composite_result_fits insts i ≡ true → NeedsNoLabel insts i
+    → composite_operands_fit insts i ≡ true → composite_result_fits insts i ≡ true → NeedsFree insts i
 unfolding row_of composite_operands_fit composite_result_fits
 copy_needs insts i whole e h k =
     let fits : is_value_of insts (slice_index i.words 1) (slice_index i.words 3) ≡ true = rw e at h in
@@ -36,7 +36,7 @@ copy_needs insts i whole e h k =
     (all_2 (is_free insts) (slice_index i.words 1) (slice_index i.words 3) (free_closed insts (slice_index i.words 1) gives)
     (free_value_of insts (slice_index i.words 1) (slice_index i.words 3) fits))
 
--- ---- what has a form is no label
+-- ---- what has a form is neither a label nor a string
 
 abbrev formed : List ℕ
 formed = op.TYPE_BOOL ∷ op.TYPE_INT ∷ op.TYPE_VECTOR ∷ op.TYPE_ARRAY ∷ op.TYPE_STRUCT ∷ []
@@ -72,8 +72,8 @@ formed_free insts h k i at m =
     sym (ap (λ (o : Option ℕ). option_map_or (is_defined_before insts k) o false) word) ∙ (kept_at insts h k i at plain).once in
     let it : defines id i ≡ true = ap (λ (o : Option ℕ). option_map_or (nat_eq id) o false) word ∙ same_id id in
     let is : definition insts id ≡ Some i = found_there (defines id) insts k i at new it in
-    ap (λ (d : Option Instruction). not (option_map_or opcode d 0 == op.LABEL)) is
-    ∙ one_passes (λ o. not (o == op.LABEL)) formed (opcode i) refl m
+    ap (λ (d : Option Instruction). not (is_one_of valueless (option_map_or opcode d 0))) is
+    ∙ one_passes (λ o. not (is_one_of valueless o)) formed (opcode i) refl m
 
 -- only such an instruction gives a form
 gives_form : (insts : List Instruction) (table : FormTable) (o : ℕ) (ws : List ℕ) → is_some (form_by insts table o ws) ≡ true → is_one_of formed o ≡ true
@@ -138,7 +138,7 @@ copied_type insts unbroken t id h = by (value_type insts id) h where
       (second_form (form_at (forms insts) u) (form_at (forms insts) t) (and_parts (not (u == t)) (match_types insts u t) h).1)
 
 pub copy_logical_needs : (insts : List Instruction) → IsUnbroken insts → (i : Instruction) → IsInstruction i.words (roles i) → opcode i ≡ op.COPY_LOGICAL
-    → composite_operands_fit insts i ≡ true → NeedsNoLabel insts i
+    → composite_operands_fit insts i ≡ true → NeedsFree insts i
 unfolding row_of composite_operands_fit
 copy_logical_needs insts unbroken i whole e h =
     let fits : copies_logically insts (slice_index i.words 1) (slice_index i.words 3) ≡ true = rw e at h in

@@ -29,7 +29,7 @@ use Rattle.spv_label_uses.proofs.Covered.{used_by_row}
 use Rattle.spv_label_uses.proofs.Free.{same_by, all_1, all_cons, all_weaker, is_free, free_kind, free_constant}
 use Rattle.spv_label_uses.proofs.Fronts.{MayNeedFront, needs_front}
 use Rattle.spv_label_uses.proofs.Groups.{AllOf}
-use Rattle.spv_label_uses.proofs.Types.{NeedsNoLabel}
+use Rattle.spv_label_uses.proofs.Types.{NeedsFree}
 
 -- no instruction breaks a rule on entry points
 abbrev pub EntriesFit : List Instruction → Type 0
@@ -99,7 +99,7 @@ mode_of insts all i e m h =
 
 pub literal_mode_needs : (insts : List Instruction) → EntriesFit insts → (i : Instruction) → IsInstruction i.words (roles i) → opcode i ≡ op.EXECUTION_MODE
     → size_fits insts i ≡ true
-    → NeedsNoLabel insts i
+    → NeedsFree insts i
 unfolding row_of
 literal_mode_needs insts all i whole e h =
     let m = mode_of insts all i (ap (λ o. o == op.ENTRY_POINT) e) (ap (λ o. o == op.EXECUTION_MODE || o == op.EXECUTION_MODE_ID) e) h in
@@ -197,7 +197,7 @@ unfolding row_of
 id_mode_rows = (λ ws. refl, tt)
 
 pub id_mode_needs : (insts : List Instruction) → EntriesFit insts → (k : ℕ) (i : Instruction) → slice_get insts k ≡ Some i → IsInstruction i.words (roles i)
-    → opcode i ≡ op.EXECUTION_MODE_ID → size_fits insts i ≡ true → NeedsNoLabel insts i
+    → opcode i ≡ op.EXECUTION_MODE_ID → size_fits insts i ≡ true → NeedsFree insts i
 id_mode_needs insts all k i at whole e h =
     let m = mode_of insts all i (ap (λ o. o == op.ENTRY_POINT) e) (ap (λ o. o == op.EXECUTION_MODE || o == op.EXECUTION_MODE_ID) e) h in
     needs_front (is_free insts) (op.EXECUTION_MODE_ID ∷ []) 2 mode_uses id_mode_rows refl i whole (ap (is_one_of (op.EXECUTION_MODE_ID ∷ [])) e)
@@ -207,7 +207,7 @@ id_mode_needs insts all k i at whole e h =
 
 -- an entry point's interface is of global variables
 pub entry_needs : (insts : List Instruction) (i : Instruction) → IsInstruction i.words (roles i) → opcode i ≡ op.ENTRY_POINT → function_fits insts i ≡ true
-    → list_all (λ id. kind insts id == op.VARIABLE && is_outside insts id) (drop (text_words (drop 3 i.words)) (drop 3 i.words)) ≡ true → NeedsNoLabel insts i
+    → list_all (λ id. kind insts id == op.VARIABLE && is_outside insts id) (drop (text_words (drop 3 i.words)) (drop 3 i.words)) ≡ true → NeedsFree insts i
 unfolding row_of
 entry_needs insts i whole e h k =
     let ids : List ℕ = drop (text_words (drop 3 i.words)) (drop 3 i.words) in

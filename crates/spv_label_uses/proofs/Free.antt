@@ -1,8 +1,8 @@
--- Ids that are no labels: by what defines them.
+-- Ids that are neither labels nor strings: by what defines them.
 use Rattle.std.proofs.Common.{◌≡◌, ◌≢◌, ℕ, zero, suc, Bool, true, false, cond, not, ◌==◌, ◌&&◌, ◌||◌, nat_eq, List, [], ◌∷◌, Option, Some, None, Result, Ok, Err, refl, sym, ap, ◌∙◌, arith}
 use Rattle.std.specs.List.{Contains, list_any, list_all, slice_get, position}
 use Rattle.std.specs.Option.{is_some, option_and_then, option_map_or}
-use Rattle.std.proofs.lemmas.Bool.{and_parts, and_from}
+use Rattle.std.proofs.lemmas.Bool.{and_parts, and_from, not-true}
 use Rattle.std.proofs.lemmas.Bool.Decides.{nat_tests}
 use Rattle.spv_opcodes.specs.declared.op.TheConstants as op
 use Rattle.spv_grammar.specs.declared.kind.Role.{Role}
@@ -27,15 +27,6 @@ or_cases false b h f g = g h
 
 pub same_by : (a b : ℕ) → (a == b) ≡ true → a ≡ b
 same_by a b h = grind (arith, nat_tests)
-
-pub other_by : (a b : ℕ) → (a == b) ≡ false → a ≢ b
-other_by a b h e = absurd (wrong (a == b) h (same_test a b e)) where
-  same_test : (a b : ℕ) → a ≡ b → (a == b) ≡ true
-  same_test a b e = grind (arith, nat_tests)
-
-  wrong : (t : Bool) → t ≡ false → t ≡ true → ⊥
-  wrong true h k = cc
-  wrong false h k = cc
 
 -- what each of some numbers passes, one of them passes; induction on the numbers
 pub one_passes : (p : ℕ → Bool) (xs : List ℕ) (x : ℕ) → list_all p xs ≡ true → is_one_of xs x ≡ true → p x ≡ true
@@ -72,18 +63,30 @@ all_weaker p q (x ∷ xs) f h =
     let both = and_parts (p x) (list_all p xs) h in
     and_from (q x) (list_all q xs) (f x both.0) (all_weaker p q xs f both.1)
 
--- ---- ids that are no labels
+-- ---- ids that are neither labels nor strings
 
--- the instruction that defines the id, if there is one, is no OpLabel
+-- what gives an id that no instruction but those that name ids uses as a value
+abbrev pub valueless : List ℕ
+valueless = op.LABEL ∷ op.STRING ∷ []
+
+-- the instruction that defines the id, if there is one, is neither an OpLabel nor an OpString
 abbrev pub is_free : List Instruction → (id : ℕ) → Bool
-is_free insts id = not (kind insts id == op.LABEL)
+is_free insts id = not (is_one_of valueless (kind insts id))
 
-pub free_kind : (insts : List Instruction) (id o : ℕ) → (kind insts id == o) ≡ true → (o == op.LABEL) ≡ false → is_free insts id ≡ true
-free_kind insts id o h k = ap (λ n. not (n == op.LABEL)) (same_by (kind insts id) o h) ∙ ap not k
+pub free_kind : (insts : List Instruction) (id o : ℕ) → (kind insts id == o) ≡ true → is_one_of valueless o ≡ false → is_free insts id ≡ true
+free_kind insts id o h k = ap (λ n. not (is_one_of valueless n)) (same_by (kind insts id) o h) ∙ ap not k
 
-pub free_kinds : (insts : List Instruction) (id : ℕ) (os : List ℕ) → is_one_of os (kind insts id) ≡ true → list_all (λ o. not (o == op.LABEL)) os ≡ true
+pub free_kinds : (insts : List Instruction) (id : ℕ) (os : List ℕ) → is_one_of os (kind insts id) ≡ true
+    → list_all (λ o. not (is_one_of valueless o)) os ≡ true
     → is_free insts id ≡ true
-free_kinds insts id os h k = one_passes (λ o. not (o == op.LABEL)) os (kind insts id) k h
+free_kinds insts id os h k = one_passes (λ o. not (is_one_of valueless o)) os (kind insts id) k h
+
+-- what is free is of neither kind
+pub free_is_no : (insts : List Instruction) (id o : ℕ) → is_free insts id ≡ true → is_one_of valueless o ≡ true → kind insts id ≢ o
+free_is_no insts id o h k e = absurd (wrong (is_one_of valueless (kind insts id)) h (ap (is_one_of valueless) e ∙ k)) where
+  wrong : (t : Bool) → not t ≡ true → t ≡ true → ⊥
+  wrong true h k = cc
+  wrong false h k = cc
 
 pub free_data : (insts : List Instruction) (t : ℕ) → is_data insts t ≡ true → is_free insts t ≡ true
 free_data insts t h = free_kinds insts t data_types h refl
@@ -127,9 +130,9 @@ free_shaped insts b n t h = free_shape insts t (has_some b n (shape insts t) h)
 
 -- ---- values
 
-no_label_type : has_result_type op.LABEL ≡ false
+valueless_untyped : list_all (λ o. not (has_result_type o)) valueless ≡ true
 unfolding row_of
-no_label_type = refl
+valueless_untyped = refl
 
 -- nothing passes, so nothing is found
 no_place : {X : Type 0} (p : X → Bool) (xs : List X) → list_any p xs ≡ false → position p xs ≡ None
@@ -138,29 +141,34 @@ no_place p xs h = by (position p xs) (sym (any-position p xs) ∙ h) where
   by None h = refl
   by (Some x) h = absurd (cc h)
 
-label_untyped : (i : Instruction) → opcode i ≡ op.LABEL → list_any is_type_id (roles i) ≡ false
-label_untyped i e = by (roles_of i.words) refl where
+no_type : (i : Instruction) → is_one_of valueless (opcode i) ≡ true → list_any is_type_id (roles i) ≡ false
+no_type i m = by (roles_of i.words) refl where
   by : (r : Result (List Role) ℕ) → roles_of i.words ≡ r → list_any is_type_id (parts r) ≡ false
   by (Err rule) h = refl
-  by (Ok rs) h = typed_where_row_has_result_type op.LABEL i.words rs e h ∙ no_label_type
+  by (Ok rs) h =
+      typed_where_row_has_result_type (opcode i) i.words rs refl h
+      ∙ not-true (has_result_type (opcode i)) (one_passes (λ o. not (has_result_type o)) valueless (opcode i) valueless_untyped m)
 
--- an instruction that gives a typed value is no OpLabel
-typed_is_free : (i : Instruction) (t : ℕ) → given_type i ≡ Some t → (opcode i == op.LABEL) ≡ false
-typed_is_free i t h = by (opcode i == op.LABEL) refl where
-  untyped : opcode i ≡ op.LABEL → given_type i ≡ None
-  untyped e =
-      ap (λ o. cond (o == op.FUNCTION) None (word_with is_type_id i)) e
-      ∙ ap (λ (place : Option ℕ). option_and_then (slice_get i.words) place) (no_place is_type_id (roles i) (label_untyped i e))
+-- an instruction that gives a typed value is neither an OpLabel nor an OpString
+typed_is_free : (i : Instruction) (t : ℕ) → given_type i ≡ Some t → is_one_of valueless (opcode i) ≡ false
+typed_is_free i t h = by (is_one_of valueless (opcode i)) refl where
+  other : list_all (λ o. not (o == op.FUNCTION)) valueless ≡ true
+  other = refl
 
-  by : (b : Bool) → (opcode i == op.LABEL) ≡ b → (opcode i == op.LABEL) ≡ false
-  by true e = absurd (cc (sym (untyped (same_by (opcode i) op.LABEL e)) ∙ h))
+  untyped : is_one_of valueless (opcode i) ≡ true → given_type i ≡ None
+  untyped m =
+      ap (λ b. cond b None (word_with is_type_id i)) (not-true (opcode i == op.FUNCTION) (one_passes (λ o. not (o == op.FUNCTION)) valueless (opcode i) other m))
+      ∙ ap (λ (place : Option ℕ). option_and_then (slice_get i.words) place) (no_place is_type_id (roles i) (no_type i m))
+
+  by : (b : Bool) → is_one_of valueless (opcode i) ≡ b → is_one_of valueless (opcode i) ≡ false
+  by true e = absurd (cc (sym (untyped e) ∙ h))
   by false e = e
 
 pub free_value : (insts : List Instruction) (id t : ℕ) → value_type insts id ≡ Some t → is_free insts id ≡ true
 free_value insts id t h = by (definition insts id) refl h where
   by : (d : Option Instruction) → definition insts id ≡ d → option_and_then given_type d ≡ Some t → is_free insts id ≡ true
   by None e h = absurd (cc h)
-  by (Some d) e h = ap (λ (d : Option Instruction). not (option_map_or opcode d 0 == op.LABEL)) e ∙ ap not (typed_is_free d t h)
+  by (Some d) e h = ap (λ (d : Option Instruction). not (is_one_of valueless (option_map_or opcode d 0))) e ∙ ap not (typed_is_free d t h)
 
 -- a value by a test of its type
 pub free_if : (insts : List Instruction) (id : ℕ) (p : ℕ → Bool) → option_map_or p (value_type insts id) false ≡ true → is_free insts id ≡ true

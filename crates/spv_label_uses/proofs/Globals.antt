@@ -14,7 +14,7 @@ use Rattle.spv_decorations.specs.Targets.{memory_decorations, builtin_suits, sui
 use Rattle.spv_decorations.specs.Globals.{class_fits, input_fits, block_fits, length_fits, initialiser_fits, variable_fits, global_fits}
 use Rattle.spv_label_uses.proofs.Covered.{used_by_row}
 use Rattle.spv_label_uses.proofs.Free.{or_cases, all_1, all_cons, is_free, free_kind, free_kinds, free_constant, free_typed, free_variable}
-use Rattle.spv_label_uses.proofs.Types.{NeedsNoLabel}
+use Rattle.spv_label_uses.proofs.Types.{NeedsFree}
 
 -- ---- targets of decorations
 
@@ -51,7 +51,7 @@ free_target insts t d literal h =
         (and_parts (is_one_of memory_decorations d) (is_one_of (op.VARIABLE ∷ op.FUNCTION_PARAMETER ∷ []) (kind insts t)) h).1 refl
 
 pub decorate_needs : (insts : List Instruction) (i : Instruction) → IsInstruction i.words (roles i) → opcode i ≡ op.DECORATE
-    → decoration_fits insts i ≡ true → NeedsNoLabel insts i
+    → decoration_fits insts i ≡ true → NeedsFree insts i
 unfolding row_of decoration_fits
 decorate_needs insts i whole e h =
     let fits : suits insts (slice_index i.words 1) (slice_index i.words 2) (slice_index i.words 3) ≡ true = rw e at h in
@@ -60,7 +60,7 @@ decorate_needs insts i whole e h =
 
 pub member_decorate_needs : (insts : List Instruction) (i : Instruction) → IsInstruction i.words (roles i) → opcode i ≡ op.MEMBER_DECORATE
     → decoration_fits insts i ≡ true
-    → NeedsNoLabel insts i
+    → NeedsFree insts i
 unfolding row_of decoration_fits
 member_decorate_needs insts i whole e h =
     let t : ℕ = slice_index i.words 1 in
@@ -76,7 +76,7 @@ member_decorate_needs insts i whole e h =
 -- its type, and its initialiser, if it has one
 pub variable_needs : (insts : List Instruction) (i : Instruction) → IsInstruction i.words (roles i) → opcode i ≡ op.VARIABLE
     → is_pointer insts (slice_index i.words 1) ≡ true
-    → list_all (is_free insts) (take 1 (drop 4 i.words)) ≡ true → NeedsNoLabel insts i
+    → list_all (is_free insts) (take 1 (drop 4 i.words)) ≡ true → NeedsFree insts i
 unfolding row_of
 variable_needs insts i whole e h k =
     used_by_row (is_free insts) i op.VARIABLE whole e refl
@@ -89,7 +89,7 @@ free_initialiser insts class target (id ∷ ids) h =
     all_1 (is_free insts) id (free_typed insts target id (and_parts (class == storage_class.PRIVATE) (has_type insts target id) h).1)
 
 pub global_needs : (insts : List Instruction) (begun : Bool) (i : Instruction) → IsInstruction i.words (roles i) → opcode i ≡ op.VARIABLE → begun ≡ false
-    → global_fits insts begun i ≡ true → NeedsNoLabel insts i
+    → global_fits insts begun i ≡ true → NeedsFree insts i
 unfolding global_fits
 global_needs insts begun i whole e outside h =
     let t : ℕ = slice_index i.words 1 in

@@ -19,7 +19,7 @@ use Rattle.spv_label_uses.proofs.Free.{same_by, one_passes, all_2, all_3, all_co
 use Rattle.spv_label_uses.proofs.Fronts.{MayNeedFront, needs_front}
 use Rattle.spv_label_uses.proofs.Groups.{AllOf, also}
 use Rattle.spv_label_uses.proofs.Parts.{leads_somewhere}
-use Rattle.spv_label_uses.proofs.Types.{NeedsNoLabel}
+use Rattle.spv_label_uses.proofs.Types.{NeedsFree}
 
 -- ---- pointers
 
@@ -39,7 +39,7 @@ made_some f None h = absurd (cc h)
 made_some f (Some x) h = refl
 
 pub load_needs : (insts : List Instruction) (i : Instruction) → IsInstruction i.words (roles i) → opcode i ≡ op.LOAD
-    → memory_operands_fit insts i ≡ true → memory_result_fits insts i ≡ true → NeedsNoLabel insts i
+    → memory_operands_fit insts i ≡ true → memory_result_fits insts i ≡ true → NeedsFree insts i
 unfolding row_of memory_operands_fit memory_result_fits
 load_needs insts i whole e h k =
     let t : ℕ = slice_index i.words 1 in
@@ -58,7 +58,7 @@ stored_free insts p v h = by (target_of insts p) refl h where
   by (Some u) e h = (free_target insts p (ap is_some e), free_value_of insts u v h)
 
 pub store_needs : (insts : List Instruction) (i : Instruction) → IsInstruction i.words (roles i) → opcode i ≡ op.STORE → memory_operands_fit insts i ≡ true
-    → NeedsNoLabel insts i
+    → NeedsFree insts i
 unfolding row_of memory_operands_fit
 store_needs insts i whole e h =
     let fits : stores insts (slice_index i.words 1) (slice_index i.words 2) ≡ true = rw e at h in
@@ -102,7 +102,7 @@ chained insts base indexes h = by (target_of insts base) refl h where
   by (Some t) e h = all_cons (is_free insts) base indexes (free_target insts base (ap is_some e)) (indexes_free insts indexes t h)
 
 pub chain_needs : (insts : List Instruction) (i : Instruction) → IsInstruction i.words (roles i) → is_one_of chains (opcode i) ≡ true
-    → memory_operands_fit insts i ≡ true → memory_result_fits insts i ≡ true → NeedsNoLabel insts i
+    → memory_operands_fit insts i ≡ true → memory_result_fits insts i ≡ true → NeedsFree insts i
 unfolding memory_operands_fit memory_result_fits
 chain_needs insts i whole m h k =
     let t : ℕ = slice_index i.words 1 in
@@ -117,7 +117,7 @@ chain_needs insts i whole m h k =
     (all_cons (is_free insts) t (base ∷ drop 4 i.words) (free_kind insts t op.TYPE_POINTER pointer refl) (chained insts base (drop 4 i.words) fits))
 
 pub length_needs : (insts : List Instruction) (i : Instruction) → IsInstruction i.words (roles i) → opcode i ≡ op.ARRAY_LENGTH
-    → memory_operands_fit insts i ≡ true → memory_result_fits insts i ≡ true → NeedsNoLabel insts i
+    → memory_operands_fit insts i ≡ true → memory_result_fits insts i ≡ true → NeedsFree insts i
 unfolding row_of memory_operands_fit memory_result_fits
 length_needs insts i whole e h k =
     let t : ℕ = slice_index i.words 1 in
@@ -147,7 +147,7 @@ access_free insts s m h =
 
 pub control_barrier_needs : (insts : List Instruction) (i : Instruction) → IsInstruction i.words (roles i) → opcode i ≡ op.CONTROL_BARRIER
     → ordering_fits insts i ≡ true
-    → NeedsNoLabel insts i
+    → NeedsFree insts i
 unfolding row_of ordering_fits
 control_barrier_needs insts i whole e h =
     let x : ℕ = slice_index i.words 1 in
@@ -161,7 +161,7 @@ control_barrier_needs insts i whole e h =
 
 pub memory_barrier_needs : (insts : List Instruction) (i : Instruction) → IsInstruction i.words (roles i) → opcode i ≡ op.MEMORY_BARRIER
     → ordering_fits insts i ≡ true
-    → NeedsNoLabel insts i
+    → NeedsFree insts i
 unfolding row_of ordering_fits
 memory_barrier_needs insts i whole e h =
     let fits : access_fits insts (slice_index i.words 1) (slice_index i.words 2) ≡ true = rw e at h in
@@ -222,7 +222,7 @@ unfolding atomic_result_fits
 atomic_leads insts i m h = rw m at h
 
 pub atomic_needs : (insts : List Instruction) (i : Instruction) → IsInstruction i.words (roles i) → is_one_of atomics (opcode i) ≡ true
-    → atomic_operands_fit insts i ≡ true → atomic_result_fits insts i ≡ true → ordering_fits insts i ≡ true → NeedsNoLabel insts i
+    → atomic_operands_fit insts i ≡ true → atomic_result_fits insts i ≡ true → ordering_fits insts i ≡ true → NeedsFree insts i
 atomic_needs insts i whole m h k o =
     let t : ℕ = slice_index i.words 1 in
     let p : ℕ = slice_index i.words 3 in
@@ -243,7 +243,7 @@ unfolding row_of
 exchange_rows = (λ ws. refl, tt)
 
 pub exchange_needs : (insts : List Instruction) (i : Instruction) → IsInstruction i.words (roles i) → opcode i ≡ op.ATOMIC_COMPARE_EXCHANGE
-    → atomic_operands_fit insts i ≡ true → atomic_result_fits insts i ≡ true → ordering_fits insts i ≡ true → NeedsNoLabel insts i
+    → atomic_operands_fit insts i ≡ true → atomic_result_fits insts i ≡ true → ordering_fits insts i ≡ true → NeedsFree insts i
 unfolding atomic_operands_fit ordering_fits
 exchange_needs insts i whole e h k o =
     let t : ℕ = slice_index i.words 1 in
@@ -273,7 +273,7 @@ unfolding row_of
 store_rows = (λ ws. refl, tt)
 
 pub atomic_store_needs : (insts : List Instruction) (i : Instruction) → IsInstruction i.words (roles i) → opcode i ≡ op.ATOMIC_STORE
-    → atomic_operands_fit insts i ≡ true → ordering_fits insts i ≡ true → NeedsNoLabel insts i
+    → atomic_operands_fit insts i ≡ true → ordering_fits insts i ≡ true → NeedsFree insts i
 unfolding atomic_operands_fit ordering_fits
 atomic_store_needs insts i whole e h o =
     let p : ℕ = slice_index i.words 1 in

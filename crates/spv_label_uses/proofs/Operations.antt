@@ -18,7 +18,7 @@ use Rattle.spv_typing.specs.Operations.{shape, has_shape, count_of, literals_lea
 use Rattle.spv_declarations.proofs.Parts.{used_in, fitted-some, operation-parts}
 use Rattle.spv_label_uses.proofs.Covered.{covers}
 use Rattle.spv_label_uses.proofs.Free.{same_by, all_1, all_2, all_3, all_cons, all_weaker, is_free, free_kind, free_constant, free_typed, free_shape, free_shaped}
-use Rattle.spv_label_uses.proofs.Types.{NeedsNoLabel}
+use Rattle.spv_label_uses.proofs.Types.{NeedsFree}
 use Rattle.spv_label_uses.proofs.Uses.{used_all}
 
 -- ---- what each pair of a table passes, a pair passes that is found
@@ -168,7 +168,7 @@ by_operation insts o t rs ids (Some form) e fit h = by_form insts o t rs ids for
 
 pub operation_needs : (insts : List Instruction) (i : Instruction) → IsInstruction i.words (roles i) → opcode i ≡ op.SPEC_CONSTANT_OP
     → spec_op_fits insts i ≡ true
-    → NeedsNoLabel insts i
+    → NeedsFree insts i
 unfolding spec_op_fits
 operation_needs insts i whole e h =
     let p = operation-parts i.words (roles i) e whole.parted in

@@ -15,7 +15,7 @@ use Rattle.spv_composites.specs.Composites.{components_in, components_of_value, 
 use Rattle.spv_declarations.specs.Laws.{IsUnbroken}
 use Rattle.spv_label_uses.proofs.Covered.{used_by_row}
 use Rattle.spv_label_uses.proofs.Free.{or_cases, same_by, all_2, all_3, all_cons, all_weaker, is_free, free_kind, free_value, free_made, free_is_value, free_value_of}
-use Rattle.spv_label_uses.proofs.Types.{NeedsNoLabel, free_component, free_array_element, free_struct_members}
+use Rattle.spv_label_uses.proofs.Types.{NeedsFree, free_component, free_array_element, free_struct_members}
 
 -- ---- made of parts
 
@@ -81,7 +81,7 @@ composite_free insts t h =
     (λ k. free_kind insts t op.TYPE_STRUCT (and_parts (is_struct insts t) (not (ends_open insts t)) k).0 refl))
 
 pub construct_needs : (insts : List Instruction) (i : Instruction) → IsInstruction i.words (roles i) → opcode i ≡ op.COMPOSITE_CONSTRUCT
-    → composite_operands_fit insts i ≡ true → composite_result_fits insts i ≡ true → NeedsNoLabel insts i
+    → composite_operands_fit insts i ≡ true → composite_result_fits insts i ≡ true → NeedsFree insts i
 unfolding row_of composite_operands_fit composite_result_fits
 construct_needs insts i whole e h k =
     let fits : constructs insts (slice_index i.words 1) (drop 3 i.words) ≡ true = rw e at h in
@@ -130,7 +130,7 @@ whole_free insts t index h = by (is_struct insts t) (is_array insts t) (is_vecto
   by false false true hs ha hv h = free_kind insts t op.TYPE_VECTOR hv refl
   by false false false hs ha hv h = absurd (cc h)
 
--- the type that literals lead to: from a type that is no label to one that is none; induction on the literals
+-- the type that literals lead to: from a free type to a free one; induction on the literals
 along_free : (insts : List Instruction) → IsUnbroken insts → (literals : List ℕ) (t u : ℕ) → is_free insts t ≡ true → part_along insts literals t ≡ Some u
     → is_free insts u ≡ true
 along_free insts unbroken [] t u h e =
@@ -152,7 +152,7 @@ leads_from insts (index ∷ rest) t n h = whole_free insts t index (by (part_at 
   by (Some v) h = refl
 
 pub extract_needs : (insts : List Instruction) → IsUnbroken insts → (i : Instruction) → IsInstruction i.words (roles i) → opcode i ≡ op.COMPOSITE_EXTRACT
-    → composite_operands_fit insts i ≡ true → composite_result_fits insts i ≡ true → NeedsNoLabel insts i
+    → composite_operands_fit insts i ≡ true → composite_result_fits insts i ≡ true → NeedsFree insts i
 unfolding row_of composite_operands_fit composite_result_fits
 extract_needs insts unbroken i whole e h k =
     let t : ℕ = slice_index i.words 1 in
@@ -199,7 +199,7 @@ inserted insts o c literals h = by (value_type insts o) (value_type insts c) ref
       }
 
 pub insert_needs : (insts : List Instruction) (i : Instruction) → IsInstruction i.words (roles i) → opcode i ≡ op.COMPOSITE_INSERT
-    → composite_operands_fit insts i ≡ true → composite_result_fits insts i ≡ true → NeedsNoLabel insts i
+    → composite_operands_fit insts i ≡ true → composite_result_fits insts i ≡ true → NeedsFree insts i
 unfolding row_of composite_operands_fit composite_result_fits
 insert_needs insts i whole e h k =
     let t : ℕ = slice_index i.words 1 in

@@ -19,7 +19,7 @@ use Rattle.spv_label_uses.proofs.Covered.{used_by_row}
 use Rattle.spv_label_uses.proofs.Declared.{defined, word_is}
 use Rattle.spv_label_uses.proofs.Free.{same_by, all_1, all_2, all_cons, is_free, free_kind, free_value_of}
 use Rattle.spv_label_uses.proofs.Parts.{got, same_count}
-use Rattle.spv_label_uses.proofs.Types.{NeedsNoLabel, free_return_type, free_parameter_types}
+use Rattle.spv_label_uses.proofs.Types.{NeedsFree, free_return_type, free_parameter_types}
 
 -- ---- functions
 
@@ -50,7 +50,7 @@ result_type_free insts unbroken next i e h k =
 
 pub function_needs : (insts : List Instruction) → IsUnbroken insts → (next : Option ℕ) (i : Instruction) → IsInstruction i.words (roles i)
     → opcode i ≡ op.FUNCTION
-    → function_fits insts i ≡ true → result_fits insts next i ≡ true → NeedsNoLabel insts i
+    → function_fits insts i ≡ true → result_fits insts next i ≡ true → NeedsFree insts i
 unfolding row_of
 function_needs insts unbroken next i whole e h k =
     used_by_row (is_free insts) i op.FUNCTION whole e refl
@@ -101,7 +101,7 @@ next_free insts unbroken fit k t h = by (function_of insts k) (function_is insts
       (slice_get types (parameters_before insts k)) refl h
 
 pub parameter_needs : (insts : List Instruction) → IsUnbroken insts → FunctionsFit insts → (k : ℕ) (i : Instruction) → IsInstruction i.words (roles i)
-    → opcode i ≡ op.FUNCTION_PARAMETER → result_fits insts (next_type_at insts k) i ≡ true → NeedsNoLabel insts i
+    → opcode i ≡ op.FUNCTION_PARAMETER → result_fits insts (next_type_at insts k) i ≡ true → NeedsFree insts i
 unfolding row_of result_fits
 parameter_needs insts unbroken fit k i whole e h =
     let next : option_map_or (nat_eq (slice_index i.words 1)) (next_type_at insts k) false ≡ true = rw e at h in
@@ -124,7 +124,7 @@ arguments_free insts (p ∷ ps) (id ∷ ids) n h =
     all_cons (is_free insts) id ids (argument_free insts p id both.0) (arguments_free insts ps ids (same_count (length ps) (length ids) n) both.1)
 
 pub call_needs : (insts : List Instruction) → IsUnbroken insts → FunctionsFit insts → (next : Option ℕ) (i : Instruction) → IsInstruction i.words (roles i)
-    → opcode i ≡ op.FUNCTION_CALL → call_fits insts i ≡ true → result_fits insts next i ≡ true → NeedsNoLabel insts i
+    → opcode i ≡ op.FUNCTION_CALL → call_fits insts i ≡ true → result_fits insts next i ≡ true → NeedsFree insts i
 unfolding row_of call_fits result_fits
 call_needs insts unbroken fit next i whole e h k =
     let f : ℕ = slice_index i.words 3 in
@@ -149,7 +149,7 @@ call_needs insts unbroken fit next i whole e h k =
 
 pub return_needs : (insts : List Instruction) (t : ℕ) (i : Instruction) → IsInstruction i.words (roles i) → opcode i ≡ op.RETURN_VALUE
     → return_fits insts t i ≡ true
-    → NeedsNoLabel insts i
+    → NeedsFree insts i
 unfolding row_of return_fits
 return_needs insts t i whole e h =
     let fits : (not (is_void insts t) && is_value_of insts t (slice_index i.words 1)) ≡ true = rw e at h in

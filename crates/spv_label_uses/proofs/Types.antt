@@ -1,4 +1,4 @@
--- Types are made of no labels.
+-- Types are made of neither labels nor strings.
 use Rattle.std.proofs.Common.{◌≡◌, ℕ, true, false, ◌==◌, ◌&&◌, ◌||◌, nat_le, List, [], ◌∷◌, drop, refl, ap, ◌∙◌}
 use Rattle.std.specs.List.{list_all, slice_index}
 use Rattle.std.proofs.lemmas.Bool.{and_parts}
@@ -101,17 +101,17 @@ function_parameters insts i e h =
 
 -- ---- what the instruction of a type needs
 
-abbrev pub NeedsNoLabel : List Instruction → Instruction → Type 0
-NeedsNoLabel insts i = list_all (is_free insts) (used_ids i) ≡ true
+abbrev pub NeedsFree : List Instruction → Instruction → Type 0
+NeedsFree insts i = list_all (is_free insts) (used_ids i) ≡ true
 
 pub vector_needs : (insts : List Instruction) (i : Instruction) → IsInstruction i.words (roles i) → opcode i ≡ op.TYPE_VECTOR → type_fits insts i ≡ true
-    → NeedsNoLabel insts i
+    → NeedsFree insts i
 unfolding row_of
 vector_needs insts i whole e h = used_by_row (is_free insts) i op.TYPE_VECTOR whole e refl
     (all_1 (is_free insts) (slice_index i.words 2) (vector_part insts i e h))
 
 pub array_needs : (insts : List Instruction) (i : Instruction) → IsInstruction i.words (roles i) → opcode i ≡ op.TYPE_ARRAY → type_fits insts i ≡ true
-    → NeedsNoLabel insts i
+    → NeedsFree insts i
 unfolding row_of
 array_needs insts i whole e h =
     used_by_row (is_free insts) i op.TYPE_ARRAY whole e refl
@@ -119,24 +119,24 @@ array_needs insts i whole e h =
 
 pub runtime_array_needs : (insts : List Instruction) (i : Instruction) → IsInstruction i.words (roles i) → opcode i ≡ op.TYPE_RUNTIME_ARRAY
     → type_fits insts i ≡ true
-    → NeedsNoLabel insts i
+    → NeedsFree insts i
 unfolding row_of
 runtime_array_needs insts i whole e h =
     used_by_row (is_free insts) i op.TYPE_RUNTIME_ARRAY whole e refl (all_1 (is_free insts) (slice_index i.words 2) (runtime_array_part insts i e h))
 
 pub struct_needs : (insts : List Instruction) (i : Instruction) → IsInstruction i.words (roles i) → opcode i ≡ op.TYPE_STRUCT → type_fits insts i ≡ true
-    → NeedsNoLabel insts i
+    → NeedsFree insts i
 unfolding row_of
 struct_needs insts i whole e h = used_by_row (is_free insts) i op.TYPE_STRUCT whole e refl (struct_parts insts i e h)
 
 pub pointer_needs : (insts : List Instruction) (i : Instruction) → IsInstruction i.words (roles i) → opcode i ≡ op.TYPE_POINTER → type_fits insts i ≡ true
-    → NeedsNoLabel insts i
+    → NeedsFree insts i
 unfolding row_of
 pointer_needs insts i whole e h = used_by_row (is_free insts) i op.TYPE_POINTER whole e refl
     (all_1 (is_free insts) (slice_index i.words 3) (pointer_part insts i e h))
 
 pub function_needs : (insts : List Instruction) (i : Instruction) → IsInstruction i.words (roles i) → opcode i ≡ op.TYPE_FUNCTION → type_fits insts i ≡ true
-    → NeedsNoLabel insts i
+    → NeedsFree insts i
 unfolding row_of
 function_needs insts i whole e h =
     used_by_row (is_free insts) i op.TYPE_FUNCTION whole e refl

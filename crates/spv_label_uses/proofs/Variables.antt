@@ -13,7 +13,7 @@ use Rattle.spv_usage.specs.Stages.{behind_label, behind_other, stage_behind, sta
 use Rattle.spv_usage.specs.Storage.{class_fits, length_fits, initialiser_fits, variable_fits, storage_fits}
 use Rattle.spv_label_uses.proofs.Free.{or_cases, same_by, all_1, is_free, free_typed}
 use Rattle.spv_label_uses.proofs.Globals.{variable_needs}
-use Rattle.spv_label_uses.proofs.Types.{NeedsNoLabel}
+use Rattle.spv_label_uses.proofs.Types.{NeedsFree}
 
 -- ---- behind an OpFunction no instruction stands outside functions
 
@@ -57,7 +57,7 @@ free_initialiser insts target (id ∷ ids) h = all_1 (is_free insts) id (free_ty
 
 pub local_needs : (insts : List Instruction) (k : ℕ) (i : Instruction) → IsInstruction i.words (roles i) → opcode i ≡ op.VARIABLE
     → list_any is_function (take k insts) ≡ true
-    → storage_fits insts (stage_of insts k) i ≡ true → NeedsNoLabel insts i
+    → storage_fits insts (stage_of insts k) i ≡ true → NeedsFree insts i
 unfolding storage_fits
 local_needs insts k i whole e begun h =
     let t : ℕ = slice_index i.words 1 in

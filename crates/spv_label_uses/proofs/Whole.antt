@@ -1,4 +1,4 @@
--- Where the rules find nothing, no instruction uses a label as a value.
+-- Where the rules find nothing, no instruction uses a label or a string as a value.
 use Rattle.std.proofs.Common.{◌≡◌, ℕ, Bool, true, false, cond, not, ◌==◌, ◌||◌, List, [], ◌∷◌, map, drop, Option, Some, None, refl, ap, subst, ◌∙◌}
 use Rattle.std.specs.List.{list_all, slice_get, slice_index}
 use Rattle.std.specs.Option.{is_some}
@@ -6,26 +6,26 @@ use Rattle.std.proofs.lemmas.Bool.{not-true, or_parts}
 use Rattle.spv_opcodes.specs.declared.op.TheConstants as op
 use Rattle.spv_grammar.specs.Table.{row_of}
 use Rattle.spv_module.specs.Instruction.{Instruction, opcode}
-use Rattle.spv_ids.specs.Ids.{kind, used_ids}
+use Rattle.spv_ids.specs.Ids.{used_ids}
 use Rattle.spv_typing.specs.Kinds.{is_one_of}
 use Rattle.spv_blocks.specs.Cutting.{pairs}
 use Rattle.spv_arithmetic.specs.declared.forms.Form.{Form}
 use Rattle.spv_arithmetic.specs.declared.forms.Form.TheVariants.{Ints, Bools, Compares, Reduces, Pairs, FieldInserts, FieldExtracts, Selects, Extended, Converts, Branches, Switches}
 use Rattle.spv_arithmetic.specs.Forms.{forms, form_of}
 use Rattle.spv_alike.specs.Uses.{value_uses, namings}
-use Rattle.spv_label_uses.specs.Laws.{FindNothing, LabelsAreNoValues}
+use Rattle.spv_label_uses.specs.Laws.{FindNothing, LabelsAreNoValues, StringsAreNoValues}
 use Rattle.spv_label_uses.proofs.Arithmetic.{is_of_form, all_of_form}
 use Rattle.spv_label_uses.proofs.ArithmeticNeeds.{Needs, NeedsOf, arithmetic_needs}
 use Rattle.spv_label_uses.proofs.Begun.{stands_outside}
 use Rattle.spv_label_uses.proofs.ByKind.{by_opcode, silent_need, types_need, outside_need, constants_need, either_need, functions_need, parts_need, memory_need, chains_need, atomics_need}
 use Rattle.spv_label_uses.proofs.Copies.{phi_values}
-use Rattle.spv_label_uses.proofs.Free.{or_cases, same_by, other_by, one_passes, member_passes, all_1, is_free}
+use Rattle.spv_label_uses.proofs.Free.{or_cases, same_by, one_passes, member_passes, all_1, is_free, free_is_no}
 use Rattle.spv_label_uses.proofs.Groups.{also}
 use Rattle.spv_label_uses.proofs.Known.{Known, known, body_of, has_row}
 use Rattle.spv_label_uses.proofs.Memory as memories
 use Rattle.spv_label_uses.proofs.Operations.{found_pair}
 use Rattle.spv_label_uses.proofs.Sorted.{silent, branches, types, outside, constants, either, functions, parts, memory, sorted}
-use Rattle.spv_label_uses.proofs.Types.{NeedsNoLabel}
+use Rattle.spv_label_uses.proofs.Types.{NeedsFree}
 use Rattle.spv_composites.specs.Memory.{atomics}
 
 -- ---- arithmetic
@@ -40,7 +40,7 @@ differ true h k = cc
 differ false h k = cc
 
 form_needs : (insts : List Instruction) (i : Instruction) (form : Form) → is_of_form (opcode i) form ≡ true → is_one_of branches (opcode i) ≡ false
-    → Needs insts form i → NeedsNoLabel insts i
+    → Needs insts form i → NeedsFree insts i
 form_needs insts i Branches t other h =
     absurd (differ (is_one_of branches (opcode i)) (ap (is_one_of branches) (same_by (opcode i) op.BRANCH_CONDITIONAL t)) other)
 form_needs insts i Switches t other h =
@@ -57,9 +57,9 @@ form_needs insts i Extended t other h = h
 form_needs insts i Converts t other h = h
 
 formed_need : (insts : List Instruction) (k : ℕ) (i : Instruction) → Known insts k i → is_one_of branches (opcode i) ≡ false
-    → is_some (form_of (opcode i)) ≡ true → NeedsNoLabel insts i
+    → is_some (form_of (opcode i)) ≡ true → NeedsFree insts i
 formed_need insts k i h other some = by (form_of (opcode i)) refl some where
-  by : (form : Option Form) → form_of (opcode i) ≡ form → is_some form ≡ true → NeedsNoLabel insts i
+  by : (form : Option Form) → form_of (opcode i) ≡ form → is_some form ≡ true → NeedsFree insts i
   by None e some = absurd (cc some)
   by (Some form) e some =
       let body = body_of insts k i h (not-true (stands_outside (opcode i))
@@ -71,7 +71,7 @@ formed_need insts k i h other some = by (form_of (opcode i)) refl some where
 
 plain_need : (insts : List Instruction) (k : ℕ) (i : Instruction) → Known insts k i → is_one_of namings (opcode i) ≡ false
     → is_one_of silent (opcode i) ≡ false
-    → is_one_of branches (opcode i) ≡ false → NeedsNoLabel insts i
+    → is_one_of branches (opcode i) ≡ false → NeedsFree insts i
 plain_need insts k i h named spoken other =
     let o : ℕ = opcode i in
     either_of (is_one_of silent o) _ (sorted o (has_row i h.whole)) (λ m. absurd (differ (is_one_of silent o) m spoken))
@@ -173,6 +173,11 @@ all_free insts h k i at named = by (is_one_of silent (opcode i)) (is_one_of bran
 pub labels_are_no_values : LabelsAreNoValues
 labels_are_no_values insts h = record {
   at = λ k i there named id used.
-      other_by (kind insts id) op.LABEL
-      (not-true (kind insts id == op.LABEL) (member_passes (is_free insts) (value_uses i) id (all_free insts h k i there named) used));
+      free_is_no insts id op.LABEL (member_passes (is_free insts) (value_uses i) id (all_free insts h k i there named) used) refl;
+}
+
+pub strings_are_no_values : StringsAreNoValues
+strings_are_no_values insts h = record {
+  at = λ k i there named id used.
+      free_is_no insts id op.STRING (member_passes (is_free insts) (value_uses i) id (all_free insts h k i there named) used) refl;
 }
