@@ -40,7 +40,7 @@ length_constant insts h k i at is =
       and_right (is_constant insts (slice_index i.words 3)) (is_int insts (type_of insts (slice_index i.words 3))) right,
     )
 
-facts_of : (gone : ℕ → Bool) (keep : Instruction → Bool) (before after : List Instruction) → IsUnbroken before → IsThinned gone keep before after
+pub facts_of : (gone : ℕ → Bool) (keep : Instruction → Bool) (before after : List Instruction) → IsUnbroken before → IsThinned gone keep before after
     → AllByRecursion (Fact gone keep before) before
 facts_of gone keep before after h thin =
     each_at (Fact gone keep before) before (λ k i at. record {

@@ -36,7 +36,7 @@ defines_no_zero i whole = by (position is_defined_id (roles i)) refl
         ∙ above (get_or i.words p 0) (id_above_zero i.words (roles i) p whole first.0 (names (get_or (roles i) p Opcode) first.1))
 
 -- by recursion on the instructions
-undefined : (insts : List Instruction) → AreInstructions insts → definition insts 0 ≡ None
+pub undefined : (insts : List Instruction) → AreInstructions insts → definition insts 0 ≡ None
 undefined [] whole = refl
 undefined (i ∷ is) whole =
     ap (λ (b : Bool). cond b (Some i) (find (defines 0) is)) (defines_no_zero i (whole 0 i refl)) ∙ undefined is (λ k j e. whole (suc k) j e)

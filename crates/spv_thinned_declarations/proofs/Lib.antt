@@ -1,0 +1,8 @@
+pub mod Uses
+pub mod Types
+pub mod Operations
+pub mod Constants
+pub mod Decorations
+pub mod Declaring
+pub mod Known
+pub mod Whole

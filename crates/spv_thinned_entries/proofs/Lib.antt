@@ -1,0 +1,10 @@
+pub mod Cases
+pub mod Places
+pub mod Calls
+pub mod Interfaces
+pub mod Kept
+pub mod Slots
+pub mod Modes
+pub mod Sizes
+pub mod EntryFunctions
+pub mod Entered
