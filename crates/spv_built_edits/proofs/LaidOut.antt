@@ -11,7 +11,8 @@ use Rattle.spv_tree.specs.Sound.{IsSound}
 use Rattle.spv_tree.specs.Tree.{words_of}
 use Rattle.spv_structured.specs.Laws.{Opens}
 use Rattle.spv_norm.specs.Norm.{outside, stays_outside, staying}
-use Rattle.spv_norm_declared.proofs.LaidOut.{AreBare, IsFunction, LaysFully, laid_out, norm_bare, norm_lays, without_none}
+use Rattle.spv_norm_declared.proofs.LaidOut.{AreBare, IsFunction, LaysFully, norm_bare, norm_lays, without_none}
+use Rattle.spv_norm_declared.proofs.Laying.{laid_out}
 use Rattle.spv_norm_declared.proofs.Walks.{behind_first, function_walks}
 use Rattle.spv_built.proofs.Functions.{are_listed, count_is}
 use Rattle.spv_built.proofs.Normal.{are_normal}

@@ -1,0 +1,151 @@
+-- What a module and what is left of it have in common: what stands outside functions, pointers, types, and what is known everywhere.
+use Rattle.std.proofs.Common.{◌≡◌, ◌⊎◌, inl, inr, ℕ, Bool, true, false, cond, ◌==◌, ◌&&◌, ◌||◌, List, [], ◌∷◌, ◌++◌, drop, filter, find, Option, Some, None, refl, sym, ap, ap₂, subst, ◌∙◌, true≢false}
+use Rattle.std.specs.List.{AllByRecursion, list_all, list_any, slice_index}
+use Rattle.std.specs.Option.{option_map, option_map_or}
+use Rattle.spv_opcodes.specs.declared.op.TheConstants as op
+use Rattle.spv_grammar.specs.Operands.{opcode_of}
+use Rattle.spv_module.specs.Code.{is_function}
+use Rattle.spv_module.specs.Instruction.{Instruction, IsInstruction, opcode, roles}
+use Rattle.spv_ids.specs.Ids.{defines, definition, kind, used_ids}
+use Rattle.spv_typing.specs.Kinds.{is_one_of, is_outside}
+use Rattle.spv_blocks.specs.Cutting.{is_label_mark}
+use Rattle.spv_tree.specs.Tree.{words_of}
+use Rattle.spv_functions.specs.Functions.{defines_pointer, is_pointer}
+use Rattle.spv_availability.specs.Availability.{is_everywhere}
+use Rattle.spv_fine.specs.Laws.{IsKnown}
+use Rattle.spv_norm.specs.Norm.{outside}
+use Rattle.spv_norm_available.proofs.Known.{defined_outside, outside_defined, place_too}
+use Rattle.spv_typed_edits.specs.Edits.{is_type, type_kinds}
+use Rattle.spv_alike_uses.specs.Alike.{AreAlikeBut, Stays}
+use Rattle.spv_thinned.specs.Thinned.{IsKept, IsThinned, lasting_kinds}
+use Rattle.spv_thinned.proofs.Definitions.{Fact, kept_definition, same_definition, same_defines, same_kind}
+use Rattle.spv_thinned.proofs.Places.{no_function, not_dropped}
+use Rattle.spv_thinned.proofs.Walk.{found, inst, walk}
+
+-- ---- an id that nothing defines
+
+none_found : (id : ℕ) (is : List Instruction) → list_any (defines id) is ≡ false → definition is id ≡ None
+none_found id [] h = refl
+none_found id (i ∷ is) h = by (defines id i) h (none_found id is)
+  where
+    by : (b : Bool) → (b || list_any (defines id) is) ≡ false → (list_any (defines id) is ≡ false → definition is id ≡ None)
+        → cond b (Some i) (definition is id) ≡ None
+    by true h more = absurd (cc h)
+    by false h more = more h
+
+module _ (gone : ℕ → Bool) (keep : Instruction → Bool) (before after : List Instruction) (thin : IsThinned gone keep before after)
+    (facts : AllByRecursion (Fact gone keep before) before) where
+  abbrev F : Instruction → Type 0
+  F i = Fact gone keep before i
+
+  -- ---- what stands outside functions
+
+  outside_dropped : (i : Instruction) (is js : List Instruction) → F i → keep i ≡ false → words_of (outside js) ≡ words_of (filter keep (outside is))
+      → words_of (outside js) ≡ words_of (filter keep (outside (i ∷ is)))
+  outside_dropped i is js f e h =
+      h ∙ sym (ap (λ (b : Bool). words_of (filter keep (cond b [] (i ∷ outside is)))) (no_function gone keep before after thin facts i f e)
+      ∙ ap (λ (b : Bool). words_of (cond b (i ∷ filter keep (outside is)) (filter keep (outside is)))) e)
+
+  outside_kept : (i j : Instruction) (is js : List Instruction) → F i → keep i ≡ true → j.words ≡ i.words
+      → words_of (outside js) ≡ words_of (filter keep (outside is)) → words_of (outside (j ∷ js)) ≡ words_of (filter keep (outside (i ∷ is)))
+  outside_kept i j is js f e w h =
+      ap (λ (b : Bool). words_of (cond b [] (j ∷ outside js))) (ap (λ ws. is_function (inst ws)) w) ∙ by (is_function i)
+    where
+      by : (b : Bool) → words_of (cond b [] (j ∷ outside js)) ≡ words_of (filter keep (cond b [] (i ∷ outside is)))
+      by true = refl
+      by false =
+          ap₂ (λ (x : List ℕ) xs. x ∷ xs) w h
+          ∙ sym (ap (λ (b : Bool). words_of (cond b (i ∷ filter keep (outside is)) (filter keep (outside is)))) e)
+
+  pub outside_is_thinned : words_of (outside after) ≡ words_of (filter keep (outside before))
+  outside_is_thinned =
+      walk keep F (λ is js. words_of (outside js) ≡ words_of (filter keep (outside is))) refl outside_dropped outside_kept before after facts thin.words
+
+  -- ---- pointers
+
+  pointers_in : (type : ℕ) (is js : List Instruction) → Type 0
+  pointers_in type is js = list_any (defines_pointer type) js ≡ list_any (defines_pointer type) is
+
+  pub same_pointer : (type : ℕ) → is_pointer after type ≡ is_pointer before type
+  same_pointer type =
+      walk keep F (λ is js. list_any (defines_pointer type) js ≡ list_any (defines_pointer type) is) refl
+      (λ i is js f e h.
+      h ∙ sym (ap (λ (b : Bool). (b && defines type i) || list_any (defines_pointer type) is)
+      (first_of (opcode i == op.TYPE_POINTER) (not_dropped gone keep before after thin facts (op.TYPE_POINTER ∷ []) refl i f e))))
+      (λ i j is js f e w h. ap₂ (λ (a b : Bool). a || b) (ap (λ ws. defines_pointer type (inst ws)) w) h) before after facts thin.words
+    where
+      first_of : (b : Bool) → (b || false) ≡ false → b ≡ false
+      first_of true h = absurd (cc h)
+      first_of false h = refl
+
+  -- ---- types
+
+  types_last : (o : ℕ) → is_one_of type_kinds o ≡ true → is_one_of lasting_kinds o ≡ true
+  types_last o h = or_more (o == op.MEMBER_DECORATE) (one_in_front type_kinds (drop 10 lasting_kinds) o h)
+    where
+      or_more : (a : Bool) {b : Bool} → b ≡ true → (a || b) ≡ true
+      or_more true h = refl
+      or_more false h = h
+
+      or_both : (a b c : Bool) → (b ≡ true → c ≡ true) → (a || b) ≡ true → (a || c) ≡ true
+      or_both true b c more h = refl
+      or_both false b c more h = more h
+
+      one_in_front : (xs ys : List ℕ) (k : ℕ) → is_one_of xs k ≡ true → is_one_of (xs ++ ys) k ≡ true
+      one_in_front [] ys k h = absurd (true≢false (sym h))
+      one_in_front (x ∷ xs) ys k h = or_both (k == x) (is_one_of xs k) (is_one_of (xs ++ ys) k) (one_in_front xs ys k) h
+
+  -- what defines a type is kept
+  pub types_stay : (t : ℕ) → is_type before t ≡ true → Stays gone t
+  types_stay t h = by (definition before t) refl h
+    where
+      kept : (i : Instruction) → F i × (defines t i ≡ true) → is_one_of type_kinds (opcode i) ≡ true → (b : Bool) → keep i ≡ b → Stays gone t
+      kept i at type true e = (at.0.kept e).defined t at.1
+      kept i at type false e = absurd (true≢false (sym (types_last (opcode i) type) ∙ (at.0.dropped e).passing))
+
+      by : (o : Option Instruction) → definition before t ≡ o → is_one_of type_kinds (option_map_or opcode o 0) ≡ true → Stays gone t
+      by None e h = absurd (true≢false (sym h))
+      by (Some i) e h = kept i (found (defines t) F before i facts e) h (keep i) refl
+
+  -- and what has gone is no longer defined
+  pub none_defines : (t : ℕ) → gone t ≡ true → list_any (defines t) after ≡ false
+  none_defines t g =
+      walk keep F (λ is js. list_any (defines t) js ≡ false) refl (λ i is js f e h. h)
+      (λ i j is js f e w h. ap₂ (λ (a b : Bool). a || b) (same_defines t i j w ∙ not_kept i (f.kept e) (defines t i) refl) h) before after facts thin.words
+    where
+      not_kept : (i : Instruction) → IsKept gone i → (b : Bool) → defines t i ≡ b → b ≡ false
+      not_kept i k true d = absurd (true≢false (sym g ∙ k.defined t d))
+      not_kept i k false d = refl
+
+  pub no_type : (t : ℕ) → gone t ≡ true → is_type after t ≡ false
+  no_type t g = ap (λ o. is_one_of type_kinds (option_map_or opcode o 0)) (none_found t after (none_defines t g))
+
+  -- ---- what is known everywhere
+
+  -- an id that stays is known everywhere where it was
+  pub known_stays : (alike : AreAlikeBut gone before after) (id : ℕ) → IsKnown before id → Stays gone id → IsKnown after id
+  known_stays alike id known stays = elim known.everywhere [
+    | inl out ↦
+        let d = outside_defined after id (alike.outside id stays ∙ defined_outside before id known.at known.is_at out) in
+        record { at = d.defined.at; inst = d.defined.inst; is_at = d.defined.is_at; is = d.defined.is; everywhere = inl d.outside }
+    | inr everywhere ↦
+        by (definition after id) refl everywhere
+        (same_definition gone keep before after thin facts id stays ∙ ap (option_map (λ i. i.words)) known.is)
+  ]
+    where
+      by : (o : Option Instruction) → definition after id ≡ o → is_everywhere known.inst ≡ true
+          → option_map (λ i. i.words) (definition after id) ≡ Some known.inst.words → IsKnown after id
+      by None e everywhere h = absurd (cc (sym (ap (option_map (λ i. i.words)) e) ∙ h))
+      by (Some i) e everywhere h =
+          let p = place_too after id i e in
+          let same : Some i.words ≡ Some known.inst.words = sym (ap (option_map (λ i. i.words)) e) ∙ h in
+          let words : i.words ≡ known.inst.words = cc same in
+          let one : Some i ≡ Some p.inst = sym e ∙ p.is in
+          let is : i ≡ p.inst = cc one in
+          record {
+            at = p.at;
+            inst = p.inst;
+            is_at = p.is_at;
+            is = p.is;
+            everywhere = inr (ap is_everywhere (sym is) ∙ ap (λ ws. is_everywhere (inst ws)) words ∙ everywhere);
+          }
