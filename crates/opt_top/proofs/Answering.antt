@@ -1,6 +1,6 @@
 -- The steps from bytes to a module and back answer what is said of the bytes.
 use Rattle.std.proofs.Common.{◌≡◌, ℕ, ◌<◌, ◌^◌, List, Result, Ok, Err, refl, sym, ap, subst}
-use Rattle.spv_admission.specs.Admission.{Admits}
+use Rattle.spv_admission.specs.Admission.{Admits, HasTrees}
 use Rattle.spv_base.specs.declared.fault.Fault.{Fault}
 use Rattle.spv_base.specs.declared.fault.Fault.TheVariants as faults
 use Rattle.spv_base.specs.declared.fault.Fault.TheVariants.{Refused, Nesting}
@@ -8,10 +8,12 @@ use Rattle.spv_base.specs.declared.header.Header.{Header}
 use Rattle.spv_bound.specs.Bound.{bound_of_ids}
 use Rattle.spv_module.specs.Code.{Code, code_of, spelling}
 use Rattle.spv_norm_means.specs.Laws.{MeansAsMuch}
+use Rattle.spv_profile.specs.Profile.{IsModule}
 use Rattle.spv_words.specs.declared.fault.WordsFault.{WordsFault}
 use Rattle.spv_words.specs.declared.fault.WordsFault.TheVariants.{ShortInput, OddLength, NotSpirv, NoMemory}
 use Rattle.spv_words.specs.Words.{Reads, words_in, bytes_of_words}
-use Rattle.opt_top.specs.Answer.{Answers, AnswersNorm, BreaksFirst, ByteFault, Fails, HasNorm, IsOutput, at, byte_rule, stripped}
+use Rattle.opt_top.specs.Answer.{Answers, AnswersNorm, BreaksFirst, ByteFault, Fails, HasNorm, IsOutput, at, byte_rule}
+use Rattle.spv_stripped.specs.Strip.{stripped}
 
 -- ---- bytes that are no words
 
@@ -51,6 +53,10 @@ norm_means bytes words norm read h others again =
     let same : words ≡ others = cc (read, again) in
     subst (λ (ws : List ℕ). MeansAsMuch (code_of ws) norm) same h.2
 
+-- it is a module of the profile, with trees
+pub norm_is_whole : (words : List ℕ) (norm : Code) → Admits words (Ok norm) → IsModule (code_of (spelling norm)) × HasTrees (code_of (spelling norm)).insts
+norm_is_whole words norm h = (h.3, h.4)
+
 -- and its bound is the one in its header
 pub norm_bound : (words : List ℕ) (norm : Code) → Admits words (Ok norm) → norm.header.bound < 2 ^ 32 → bound_of_ids norm.insts < 2 ^ 32
 norm_bound words norm h small = subst (λ (n : ℕ). n < 2 ^ 32) (ap (λ (header : Header). header.bound) h.1.header) small
@@ -63,5 +69,6 @@ pub fails_alike : (bytes : List ℕ) (fault : Fault) (norm : Result Code Fault) 
 fails_alike bytes fault norm answer is same h = subst (Answers bytes) (sym same) (subst (AnswersNorm bytes) is h)
 
 -- the bytes of a normal form
-pub norm_written : (bytes output : List ℕ) (norm : Code) → HasNorm bytes norm → output ≡ bytes_of_words (spelling (stripped norm)) → IsOutput bytes output
-norm_written bytes output norm h e = record { norm = norm; normal = h; spelled = e }
+pub norm_written : (bytes output : List ℕ) (norm : Code) → HasNorm bytes norm → output ≡ bytes_of_words (spelling (stripped norm))
+    → IsModule (code_of (spelling (stripped norm))) → IsOutput bytes output
+norm_written bytes output norm h e whole = record { norm = norm; normal = h; spelled = e; whole = whole }

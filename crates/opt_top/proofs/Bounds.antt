@@ -3,7 +3,7 @@ use Rattle.std.proofs.Common.{◌≡◌, ℕ, ◌<◌, ◌≤◌, ◌^◌, max, 
 use Rattle.spv_grammar.specs.Roles.{names_id}
 use Rattle.spv_bound.specs.Bound.{words_with, named_ids, greatest, bound_of_ids}
 use Rattle.spv_module.specs.Instruction.{Instruction}
-use Rattle.opt_top.specs.Strip.{stays, stripped_insts}
+use Rattle.spv_stripped.specs.Strip.{stays, stripped_insts}
 
 greatest-append : (xs ys : List ℕ) → greatest (xs ++ ys) ≡ max (greatest xs) (greatest ys)
 greatest-append [] ys = grind arith

@@ -18,9 +18,8 @@ use Rattle.spv_module.specs.Instruction.{Instruction, IsInstruction, roles}
 use Rattle.spv_norm_means.specs.Laws.{MeansAsMuch}
 use Rattle.spv_spelling.specs.Whole.{AreInstructions}
 use Rattle.spv_words.specs.Words.{words_in, HasHeader}
-use Rattle.opt_top.specs.Answer.{stripped}
 use Rattle.opt_top.specs.Means.{Means}
-use Rattle.opt_top.specs.Strip.{stays}
+use Rattle.spv_stripped.specs.Strip.{stays, stripped}
 
 -- ---- a module without what says something of its source alone
 

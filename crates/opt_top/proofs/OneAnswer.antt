@@ -14,9 +14,9 @@ use Rattle.spv_norm.specs.Norm.{norm_lines}
 use Rattle.spv_tree.specs.Tree.{words_of}
 use Rattle.spv_words.specs.declared.fault.WordsFault.{WordsFault}
 use Rattle.spv_words.specs.Words.{words_in, bytes_of_words}
-use Rattle.opt_top.specs.Answer.{BreaksFirst, InProfile, IsOutput, stripped}
+use Rattle.opt_top.specs.Answer.{BreaksFirst, InProfile, IsOutput}
 use Rattle.opt_top.specs.Laws.{NoneTooNested, OneAnswer}
-use Rattle.opt_top.specs.Strip.{stays, stripped_insts}
+use Rattle.spv_stripped.specs.Strip.{stays, stripped, stripped_insts}
 use Rattle.opt_top.proofs.Completing.{breaks_none, nests_none}
 
 -- ---- what is written, by the lines of the normal form

@@ -6,7 +6,7 @@ use Rattle.std.proofs.lemmas.List.{append-nil}
 use Rattle.std.proofs.lemmas.List.Elements.{filter-append}
 use Rattle.std.proofs.lemmas.Option.{get_or_from_slice_get}
 use Rattle.spv_module.specs.Instruction.{Instruction}
-use Rattle.opt_top.specs.Strip.{stays, stripped_insts}
+use Rattle.spv_stripped.specs.Strip.{stays, stripped_insts}
 
 stripped-push : (insts : List Instruction) (k : ℕ) (i : Instruction) (b : Bool) → k < length insts → slice_get insts k ≡ Some i → stays i ≡ b → stripped_insts (take (k + 1) insts) ≡ stripped_insts (take k insts) ++ cond b (i ∷ []) []
 stripped-push insts k i b fits at e =

@@ -1,16 +1,15 @@
 -- What the optimiser makes of the bytes of its input.
 use Rattle.std.specs.Prelude.{◌≡◌, ℕ, List, Result, Ok, Err, ⊤}
-use Rattle.spv_profile.specs.Profile.{IsInProfile, IsRefused, IsTooNested}
+use Rattle.spv_profile.specs.Profile.{IsInProfile, IsModule, IsRefused, IsTooNested}
 use Rattle.spv_base.specs.declared.fault.Fault.{Fault}
 use Rattle.spv_base.specs.declared.fault.Fault.TheVariants as faults
 use Rattle.spv_base.specs.declared.fault.Refusal.{Refusal}
-use Rattle.spv_bound.specs.Bound.{bound_of_ids}
 use Rattle.spv_module.specs.Code.{Code, code_of, spelling}
 use Rattle.spv_norm.specs.Norm.{IsNorm}
 use Rattle.spv_words.specs.declared.fault.WordsFault.{WordsFault}
 use Rattle.spv_words.specs.declared.fault.WordsFault.TheVariants.{ShortInput, OddLength, NotSpirv, NoMemory}
 use Rattle.spv_words.specs.Words.{words_in, bytes_of_words}
-use Rattle.opt_top.specs.Strip.{stripped_insts}
+use Rattle.spv_stripped.specs.Strip.{stripped}
 
 -- the rule that bytes break; want of memory is none
 abbrev pub byte_rule : WordsFault → ℕ
@@ -21,13 +20,6 @@ byte_rule NoMemory = 0
 
 abbrev pub at : ℕ → ℕ → Refusal
 at place rule = record { rule = rule; at = place }
-
--- the module without what says something of its source alone, under the bound that its ids ask for
-abbrev pub stripped : Code → Code
-stripped code = record {
-  header = record code.header { bound = bound_of_ids (stripped_insts code.insts) };
-  insts = stripped_insts code.insts;
-}
 
 -- The bytes are words that the profile admits.
 pub record InProfile (bytes : List ℕ) : Type 0 where
@@ -53,11 +45,12 @@ pub record HasNorm (bytes : List ℕ) (norm : Code) : Type 0 where
   pub admitted : IsInProfile words
   pub normal : IsNorm (code_of words) norm
 
--- The output is the spelling of the normal form without what says something of its source alone.
+-- The output is the spelling of the normal form without what says something of its source alone, which is a module of the profile in normal form.
 pub record IsOutput (bytes output : List ℕ) : Type 0 where
   pub norm : Code
   pub normal : HasNorm bytes norm
   pub spelled : output ≡ bytes_of_words (spelling (stripped norm))
+  pub whole : IsModule (code_of (spelling (stripped norm)))
 
 -- the bytes to be written for an input, or why it is refused
 abbrev pub IsAnswer : (bytes : List ℕ) → Result (List ℕ) Refusal → Type 0

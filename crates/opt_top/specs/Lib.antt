@@ -7,4 +7,3 @@ pub mod Means
 pub mod Moves
 pub mod Status
 pub mod Stops
-pub mod Strip

@@ -6,7 +6,10 @@ ghost use Rattle.spv_module.specs.Code.{code_of, spelling};
 ghost use Rattle.spv_norm_means.specs.Laws.{MeansAsMuch};
 ghost use Rattle.spv_words.specs.Words.{bytes_of_words, words_in};
 ghost use Rattle.opt_top.specs.Means.{Means};
-ghost use Rattle.opt_top.specs.Answer.{Answers, AnswersNorm, ByteFault, stripped};
+ghost use Rattle.opt_top.specs.Answer.{Answers, AnswersNorm, ByteFault};
+ghost use Rattle.spv_admission.specs.Admission.{HasTrees};
+ghost use Rattle.spv_profile.specs.Profile.{IsModule};
+ghost use Rattle.spv_stripped.specs.Strip.{stripped};
 
 use crate::strip::strip_debug;
 use spv_admission::admit;
@@ -34,6 +37,7 @@ fn read_module(alloc: Global, bytes: &[u8]) -> Result<Flat, Fault>
     ensures answer { AnswersNorm bytes.now result }
     ensures means { IfOk result (λ norm. (words : List ℕ) → words_in bytes.now ≡ Ok words → MeansAsMuch (code_of words) norm) }
     ensures bound { IfOk result (λ norm. bound_of_ids norm.insts < 2 ^ 32) }
+    ensures module { IfOk result (λ norm. IsModule (code_of (spelling norm)) × HasTrees (code_of (spelling norm)).insts) }
 {
     let words = match words_of(alloc, bytes) {
         Ok(words) => words,
@@ -44,10 +48,11 @@ fn read_module(alloc: Global, bytes: &[u8]) -> Result<Flat, Fault>
     Ok(norm)
 }
 
-/// Says that a module means the same without what says something of its source alone, written and read again. Does
-/// nothing.
+/// Says that a module means the same without what says something of its source alone, written and read again, and is a
+/// module of the profile in normal form again. Does nothing.
 fn stripped_means_same(flat: &Flat)
-    ensures { (d : Dispatch) → MeansSame flat.now (code_of (spelling (stripped flat.now))) d }
+    ensures same { (d : Dispatch) → MeansSame flat.now (code_of (spelling (stripped flat.now))) d }
+    ensures module { IsModule (code_of (spelling flat.now)) → HasTrees (code_of (spelling flat.now)).insts → IsModule (code_of (spelling (stripped flat.now))) }
 {
     flat.insts().each_is_instruction();
 }

@@ -1,8 +1,7 @@
 ghost use Rattle.std.specs.Prelude.{◌≡◌, ◌<◌, ◌^◌, IfOk};
 ghost use Rattle.spv_bound.specs.Bound.{bound_of_ids};
-ghost use Rattle.opt_top.specs.Answer.{stripped};
 ghost use Rattle.spv_module.specs.View.{seen};
-ghost use Rattle.opt_top.specs.Strip.{stays as stays_in, stripped_insts};
+ghost use Rattle.spv_stripped.specs.Strip.{stays as stays_in, stripped, stripped_insts};
 
 use spv_base::{Header, NoMemory};
 use spv_bound::bound_of;

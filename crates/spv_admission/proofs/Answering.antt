@@ -25,7 +25,7 @@ use Rattle.spv_norm_means.specs.Laws.{MeansAsMuch}
 use Rattle.spv_admitted.proofs.Whole.{admitted_means_as_much}
 use Rattle.spv_admission.specs.Admission.{Admits}
 use Rattle.spv_profile.specs.Profile.{ByBodies, ByControlFlow, ByDeclarations, ByDecoding, ByWhole, IsDeclaredModule, IsInProfile, IsStructuredModule}
-use Rattle.spv_norm_profile.proofs.Whole.{norm_is_module}
+use Rattle.spv_norm_profile.proofs.Whole.{norm_is_module, norm_is_parsed}
 use Rattle.spv_admission.proofs.Findings.{find_nothing}
 
 -- the places of the instructions that words spell rise
@@ -99,11 +99,13 @@ module _ (words : List ℕ) (code : Code) (is : code ≡ code_of words) where
         pub all_told : (norm : Code) → IsFirst (BrokenInWhole code.insts) None → AreInstructions code.insts → IsDeclared code.insts → IsNorm code norm
             → Admits words (Ok norm)
         all_told norm w each declared n =
-            let normal : IsNorm (code_of words) norm = subst (λ (c : Code). IsNorm c norm) is n in (
+            let normal : IsNorm (code_of words) norm = subst (λ (c : Code). IsNorm c norm) is n in
+            let parsed : AreParsed (code_of words).insts bodies = subst (λ (c : Code). AreParsed c.insts bodies) is p in (
               profile w,
               normal,
               subst (λ (c : Code). MeansAsMuch c norm) is (admitted_means_as_much code norm bodies (find_nothing code bodies each declared p b w) n),
-              norm_is_module words bodies norm (profile w) (subst (λ (c : Code). AreParsed c.insts bodies) is p) normal,
+              norm_is_module words bodies norm (profile w) parsed normal,
+              (bodies, norm_is_parsed words bodies norm (profile w) parsed normal),
             )
 
 -- ---- the words, and the declarations

@@ -11,7 +11,7 @@ use Rattle.spv_tree.specs.Tree.{words_of}
 use Rattle.spv_profile.specs.Profile.{IsModule}
 use Rattle.spv_norm_profile.proofs.Meaning.{keeps_on}
 use Rattle.spv_norm_profile.proofs.Words.{all_counted, same_bound}
-use Rattle.spv_admission.specs.Admission.{Admits}
+use Rattle.spv_admission.specs.Admission.{Admits, HasTrees}
 
 module _ (words : List ℕ) (norm : Code) (each : AreInstructions norm.insts) (a : Admits words (Ok norm)) where
   abbrev after : Code
@@ -30,7 +30,8 @@ module _ (words : List ℕ) (norm : Code) (each : AreInstructions norm.insts) (a
   means = keeps_on (code_of words) norm after a.2 (λ d. means_same norm after (ap statements_in same) d)
 
   placed_admits : Admits words (Ok after)
-  placed_admits = (a.0, normal, means, subst IsModule (sym (a.3.placed)) a.3)
+  placed_admits =
+      (a.0, normal, means, subst IsModule (sym (a.3.placed)) a.3, subst (λ (c : Code). HasTrees c.insts) (sym (a.3.placed)) a.4)
 
 -- the answer of admission may be placed
 pub admits_placed : (words : List ℕ) (norm m : Code) → AreInstructions norm.insts → Admits words (Ok norm) → m ≡ code_of (spelling norm) → Admits words (Ok m)

@@ -13,10 +13,10 @@ returns-in_err-norm-clause-answer c =
 pub returns-clause-answer : goal.returns-clause-answer
 returns-clause-answer c =
     norm_written c.args.bytes.now c.in_ok-write_module.field-0 c.in_ok-norm.norm c.in_ok-norm.ensures.answer
-    c.in_ok-write_module.ensures.bytes
+    c.in_ok-write_module.ensures.bytes (c.stripped_means_same.ensures.module c.in_ok-norm.ensures.module.0 c.in_ok-norm.ensures.module.1)
 
 pub returns-clause-means : goal.returns-clause-means
 returns-clause-means c =
     let h = c.in_ok-norm.ensures.answer in
     output_means c.args.bytes.now h.words c.in_ok-write_module.field-0 c.in_ok-norm.norm h.read
-    (c.in_ok-norm.ensures.means h.words h.read) c.stripped_means_same.ensures c.in_ok-write_module.ensures.reads_back
+    (c.in_ok-norm.ensures.means h.words h.read) c.stripped_means_same.ensures.same c.in_ok-write_module.ensures.reads_back

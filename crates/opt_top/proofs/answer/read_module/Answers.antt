@@ -1,7 +1,7 @@
 use Rattle.std.proofs.Common.{◌∙◌, sym, ap, Err, Ok, arith}
 use Rattle.spv_base.specs.declared.header.Header.{Header}
 use Rattle.std.proofs.lemmas.Result.{err_from_is_err_and}
-use Rattle.opt_top.proofs.Answering.{bytes_refused, norm_bound, norm_means, words_admitted, words_refused}
+use Rattle.opt_top.proofs.Answering.{bytes_refused, norm_bound, norm_is_whole, norm_means, words_admitted, words_refused}
 use Rattle.opt_top.proofs.answer.read_module.Goals as goal
 
 pub returns-in-Err-clause-answer : goal.returns-in-Err-clause-answer
@@ -27,3 +27,6 @@ pub returns-clause-bound : goal.returns-clause-bound
 returns-clause-bound c =
     let same = ap (λ (header : Header). header.bound) c.header-bound.ensures in
     norm_bound c.as_slice.result.now c.in_ok-norm.norm c.in_ok-norm.ensures (omega (arith, same, c.header-bound.type_inv))
+
+pub returns-clause-module : goal.returns-clause-module
+returns-clause-module c = norm_is_whole c.as_slice.result.now c.in_ok-norm.norm c.in_ok-norm.ensures

@@ -1,6 +1,6 @@
 use Rattle.std.proofs.Common.{◌≡◌, length, ap, ◌∙◌, arith}
 use Rattle.spv_bound.specs.Bound.{bound_of_ids}
-use Rattle.opt_top.specs.Strip.{stripped_insts}
+use Rattle.spv_stripped.specs.Strip.{stripped_insts}
 use Rattle.opt_top.proofs.Bounds.{bound-stripped, length-stripped}
 use Rattle.opt_top.proofs.strip.strip_debug.Goals as goal
 

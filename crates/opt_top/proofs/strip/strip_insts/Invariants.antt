@@ -1,5 +1,5 @@
 use Rattle.std.proofs.Common.{◌≡◌, take}
-use Rattle.opt_top.specs.Strip.{stripped_insts}
+use Rattle.spv_stripped.specs.Strip.{stripped_insts}
 use Rattle.opt_top.proofs.strip.strip_insts.Given as goal
 
 abbrev pub invariant-instructions : goal.invariant-instructions

@@ -1,0 +1,4 @@
+pub mod Opcodes
+pub mod Uses
+pub mod Lines
+pub mod Whole
