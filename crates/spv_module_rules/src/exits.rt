@@ -1,13 +1,13 @@
-ghost use Rattle.std.specs.Prelude.{◌≡◌, ℕ, IfOk, map};
+ghost use Rattle.std.specs.Prelude.{◌≡◌, ℕ, nat_le, IfOk, map};
 ghost use Rattle.spv_module.specs.First.{first};
 ghost use Rattle.spv_blocks.specs.Cutting.{blocks_of, function_at};
 ghost use Rattle.spv_exits.specs.Exits.{AreNestedReturns, capped, crowded, crowded_in_all, functions_of};
-ghost use Rattle.spv_module_rules.specs.Kept.{AreCounted, IsFirstCrowded};
+ghost use Rattle.spv_module_rules.specs.Kept.{AreCounted, AreUnbroken, IsFirstCrowded, blocks_together};
 
 use spv_base::{NoMemory, Refusal};
 use spv_blocks::{Edges, Function, Labels, starts};
 use spv_entering::{enterers, tops};
-use spv_exits::{add_nested, first_crowded, nested_returns};
+use spv_exits::{add_nested, first_crowded, nested_returns, rule};
 use spv_faults::earlier;
 use spv_module::Flat;
 use spv_walking::walk;
@@ -31,6 +31,23 @@ fn functions(alloc: Global, flat: &Flat) -> Result<Vec<Function>, NoMemory>
     let starts = starts(alloc, flat)?;
     let functions = functions_at(alloc, flat, &starts)?;
     Ok(functions)
+}
+
+/// So many blocks of all functions together break 607 nowhere: no more of them branch to one, and no more returns are nested.
+const FEW_BLOCKS: usize = rule::MOST_EXITS / 2;
+
+/// Whether functions have so few blocks together.
+fn have_few_blocks(functions: &[Function]) -> bool
+    ensures { result ≡ nat_le (blocks_together functions.now) 8191 }
+{
+    let mut left = FEW_BLOCKS;
+    'each: for function in functions {
+        if function.count() > left {
+            return false;
+        }
+        left -= function.count();
+    }
+    true
 }
 
 /// How many nested returns a function has, by a walk through its structured control flow.
@@ -86,11 +103,14 @@ fn first_crowded_in(
 }
 
 /// 607: the first block of a module where the blocks that branch there and the nested returns of all functions are too
-/// many together.
+/// many together. Where there are few blocks, none is looked at.
 pub(crate) fn many_exits(alloc: Global, flat: &Flat) -> Result<Option<Refusal>, NoMemory>
-    ensures { IfOk result (IsFirstCrowded (functions_of flat.now.insts)) }
+    ensures { IfOk result (λ refusal. AreUnbroken flat.now.insts → IsFirstCrowded (functions_of flat.now.insts) refusal) }
 {
     let functions = functions(alloc, flat)?;
+    if have_few_blocks(&functions) {
+        return Ok(None);
+    }
     let nested = nested_together(alloc, &functions)?;
     let refusal = first_crowded_in(alloc, &functions, nested)?;
     Ok(refusal)

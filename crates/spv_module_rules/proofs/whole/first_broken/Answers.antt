@@ -6,4 +6,4 @@ pub returns : goal.returns
 returns c = λ unbroken.
     first-in_whole c.args.flat.now.insts c.in_ok-on_calls.on_calls c.in_ok-on_exits.on_exits c.earlier.result
     (subst (λ is. AreOnCalls is c.in_ok-on_calls.on_calls) c.requires.same c.in_ok-on_calls.ensures)
-    c.in_ok-on_exits.ensures c.earlier.ensures.same unbroken
+    (c.in_ok-on_exits.ensures unbroken) c.earlier.ensures.same unbroken
