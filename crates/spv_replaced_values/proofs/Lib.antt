@@ -1,0 +1,9 @@
+pub mod Standing
+pub mod Fixed
+pub mod Keeping
+pub mod Arithmetic
+pub mod Composites
+pub mod Memory
+pub mod Usage
+pub mod Signatures
+pub mod Rules

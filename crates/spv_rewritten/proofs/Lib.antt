@@ -1,0 +1,13 @@
+pub mod Pairs
+pub mod Rows
+pub mod Common
+pub mod Lookups
+pub mod Statements
+pub mod Tables
+pub mod Alike
+pub mod Passing
+pub mod Declared
+pub mod Calls
+pub mod Interfaces
+pub mod Entries
+pub mod Entered
