@@ -11,6 +11,7 @@ use Rattle.spv_module.specs.Instruction.{Instruction, IsInstruction, opcode, rol
 use Rattle.spv_ids.specs.Ids.{defines, definition, is_needed, kind, word_of, words_of, used_ids}
 use Rattle.spv_ids.proofs.Places.{position-cons}
 use Rattle.spv_typing.specs.Kinds.{is_constant, is_int, type_of}
+use Rattle.spv_typing.specs.Operations.{spec_op_fits}
 use Rattle.spv_values.specs.Values.{given_type, value_type}
 use Rattle.spv_declarations.proofs.Parts.{used_in}
 use Rattle.spv_alike_uses.specs.Alike.{Stays}
@@ -25,6 +26,7 @@ pub record Fact (gone : ℕ → Bool) (keep : Instruction → Bool) (before : Li
   -- the length of an array type is a constant of a type of integers
   pub length : (opcode i == op.TYPE_ARRAY) ≡ true
       → (is_constant before (slice_index i.words 3) ≡ true) × (is_int before (type_of before (slice_index i.words 3)) ≡ true)
+  pub operation : opcode i ≡ op.SPEC_CONSTANT_OP → spec_op_fits before i ≡ true
 
 -- ---- by words
 

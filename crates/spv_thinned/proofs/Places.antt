@@ -46,7 +46,7 @@ parameter_typed : row_test first_typed (row_of op.FUNCTION_PARAMETER) ≡ true
 unfolding row_of
 parameter_typed = refl
 
-itself : (k : ℕ) → nat_eq k k ≡ true
+pub itself : (k : ℕ) → nat_eq k k ≡ true
 itself k = grind (arith, nat_tests)
 
 -- the type of an instruction is used

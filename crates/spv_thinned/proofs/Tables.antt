@@ -1,43 +1,32 @@
--- The same is declared: constants have the same meanings, and types the same forms.
-use Rattle.std.proofs.Common.{◌≡◌, ℕ, suc, Bool, true, false, cond, not, nat_lt, ◌==◌, ◌&&◌, ◌||◌, List, [], ◌∷◌, ◌++◌, length, Option, Some, None, refl, sym, ap, ap₂, subst, ◌∙◌, true≢false, eqb-true}
-use Rattle.std.specs.List.{AllByRecursion, list_all, list_any, slice_index}
-use Rattle.std.specs.Option.{is_some, option_and_then, option_map, option_map_or}
+-- Of what stays the same constants are Known, and types have the same forms.
+use Rattle.std.proofs.Common.{◌≡◌, ℕ, Bool, true, false, cond, nat_eq, nat_lt, ◌==◌, ◌&&◌, ◌||◌, List, [], ◌∷◌, drop, Option, Some, None, refl, sym, ap, ap₂, subst, ◌∙◌, true≢false, eqb-true}
+use Rattle.std.specs.List.{AllByRecursion, list_all, slice_index}
+use Rattle.std.specs.Option.{option_and_then, option_map, option_map_or}
 use Rattle.spv_opcodes.specs.declared.op.TheConstants as op
-use Rattle.spv_opcodes.specs.declared.decoration.TheConstants as decoration
-use Rattle.spv_grammar.specs.Roles.{is_used_id}
 use Rattle.spv_grammar.specs.Table.{row_of}
-use Rattle.spv_module.specs.Code.{is_function}
 use Rattle.spv_module.specs.Instruction.{Instruction, opcode}
 use Rattle.spv_meaning.specs.Meanings.{constant_words}
-use Rattle.spv_meaning.specs.Statements as states
-use Rattle.spv_meaning.specs.Statements.{Statement, said}
-use Rattle.spv_meaning.specs.Types.{Array, Member, RuntimeArray, Struct}
-use Rattle.spv_meaning.specs.Constants.{IsConstant, IsType, Table, decorated, defined, first_literal, given, length_at, meaning, member_decorated, members_of, type_at, with_entry}
-use Rattle.spv_ids.specs.Ids.{definition, word_of, words_with}
+use Rattle.spv_meaning.specs.Constants.{Table, meaning}
+use Rattle.spv_ids.specs.Ids.{definition, kind, word_of}
 use Rattle.spv_typing.specs.Kinds.{constants, is_constant, is_one_of, is_outside, type_of}
-use Rattle.spv_ids.specs.Ids.{kind}
-use Rattle.spv_declarations.specs.Declarations.{Declared, declare, declare_all, declared_before, entry_of, is_specialised, nothing_declared, says}
+use Rattle.spv_declarations.specs.Declarations.{declare_all, nothing_declared, says}
 use Rattle.spv_declarations.specs.Laws.{meanings}
-use Rattle.spv_declarations.proofs.Parts.{first_typed, row_test, typed-words}
+use Rattle.spv_declarations.proofs.Parts.{defined-plain, first_plain, first_typed, row_test, typed-words}
+use Rattle.spv_declarations.proofs.Tables.{defines_result}
 use Rattle.spv_declarations.proofs.Whole.{declared-whole, take_all}
 use Rattle.spv_types.specs.Lookup.{kind_in, known_word, specialised, word_in}
 use Rattle.spv_composites.specs.Forms as form
-use Rattle.spv_composites.specs.Forms.{FormTable, NoPart, form_at, form_of, forms, forms_behind, parts_behind, plain_types, with_form}
+use Rattle.spv_composites.specs.Forms.{Form, FormTable, NoPart, Part, Parts, form_at, form_by, form_of, forms, forms_behind, parts_behind, plain_types, with_form}
 use Rattle.spv_composites.specs.Lengths.{is_signed, known_length, some_length}
 use Rattle.spv_alike_uses.specs.Alike.{Stays}
 use Rattle.spv_alike_uses.proofs.Lookups.{each, where_true}
-use Rattle.spv_alike_uses.proofs.Used.{used_word, word_uses}
-use Rattle.spv_thinned.specs.Thinned.{IsThinned, local_kinds}
-use Rattle.spv_thinned.proofs.Walk.{Local, inst, local, walk}
-use Rattle.spv_thinned.proofs.Definitions.{Fact, kept_definition, same_word}
-use Rattle.spv_thinned.proofs.Said.{dropped_entry, same_kept, same_members}
-use Rattle.spv_thinned.proofs.Places.{first_type, no_function, not_dropped, or_false}
-
-none_by : {A : Type 0} (a b c : Bool) (x y z : Option A) → a ≡ false → b ≡ false → c ≡ false → cond a x (cond b y (cond c z None)) ≡ None
-none_by true b c x y z h g k = absurd (true≢false h)
-none_by false true c x y z h g k = absurd (true≢false g)
-none_by false false true x y z h g k = absurd (true≢false k)
-none_by false false false x y z h g k = refl
+use Rattle.spv_alike_uses.proofs.Used.{end_uses, used_word, used_words, word_uses}
+use Rattle.spv_thinned.specs.Thinned.{IsThinned}
+use Rattle.spv_thinned.proofs.Walk.{inst, walk}
+use Rattle.spv_thinned.proofs.Definitions.{Fact, defines_none, kept_definition, same_word}
+use Rattle.spv_thinned.proofs.Declared.{Agree, lookup_more, lookup_other, same_declared}
+use Rattle.spv_thinned.proofs.Places.{first_type}
+use Rattle.spv_thinned.proofs.Said.{word_behind}
 
 constant_kinds : (a b d : Bool) → (a || (b && d)) ≡ true → (b || a) ≡ true
 constant_kinds a true d h = refl
@@ -48,125 +37,57 @@ are_typed : list_all (λ o. row_test first_typed (row_of o)) (op.UNDEF ∷ const
 unfolding row_of
 are_typed = refl
 
-array_uses : word_uses 2 op.TYPE_ARRAY ≡ true
+array_uses : (word_uses 1 op.TYPE_ARRAY ≡ true) × (word_uses 2 op.TYPE_ARRAY ≡ true)
 unfolding row_of
-array_uses = refl
+array_uses = (refl, refl)
 
-abbrev known_of : List ℕ → Table → (id k : ℕ) → Option ℕ
-known_of ids table id k = word_in (kind_in (is_one_of ids id) (constant_words (meaning table id))) (constant_words (meaning table id)) k
+struct_uses : end_uses 1 op.TYPE_STRUCT ≡ true
+unfolding row_of
+struct_uses = refl
+
+-- types that have forms
+abbrev formed : List ℕ
+formed = op.TYPE_ARRAY ∷ op.TYPE_STRUCT ∷ plain_types
+
+are_plain : list_all (λ o. row_test first_plain (row_of o)) formed ≡ true
+unfolding row_of
+are_plain = refl
+
+by_form : {A : Type 0} (p a s : Bool) (x y z : Option A) (g : A) → cond p x (cond a y (cond s z None)) ≡ Some g → (a || (s || p)) ≡ true
+by_form true true s x y z g h = refl
+by_form true false true x y z g h = refl
+by_form true false false x y z g h = refl
+by_form false true s x y z g h = refl
+by_form false false true x y z g h = refl
+by_form false false false x y z g h = absurd (cc h)
 
 module _ (gone : ℕ → Bool) (keep : Instruction → Bool) (before after : List Instruction) (thin : IsThinned gone keep before after)
     (facts : AllByRecursion (Fact gone keep before) before) where
   abbrev F : Instruction → Type 0
   F i = Fact gone keep before i
 
-  -- ---- what is dropped declares nothing
+  all_declared : Agree gone (declare_all (says before) nothing_declared before) (declare_all (says after) nothing_declared after)
+  all_declared =
+      same_declared gone keep before after thin facts before after facts thin.words nothing_declared nothing_declared
+      (record { begun = refl; meanings = λ id s. refl; specialised = λ id s. refl })
 
-  not_specialised : (all : List Statement) (ids : List ℕ) (i : Instruction) → F i → keep i ≡ false → is_specialised all ids i ≡ false
-  not_specialised all ids i f e =
-      ap (λ (b : Bool). cond b (is_some (decorated all (slice_index i.words 2) decoration.SPEC_ID))
-      (is_one_of (op.SPEC_CONSTANT_COMPOSITE ∷ op.SPEC_CONSTANT_OP ∷ []) (opcode i) && list_any (is_one_of ids) (words_with is_used_id i)))
-      (not_dropped gone keep before after thin facts (op.SPEC_CONSTANT_TRUE ∷ op.SPEC_CONSTANT_FALSE ∷ op.SPEC_CONSTANT ∷ []) refl i f e)
-      ∙ ap (λ (b : Bool). b && list_any (is_one_of ids) (words_with is_used_id i))
-      (not_dropped gone keep before after thin facts (op.SPEC_CONSTANT_COMPOSITE ∷ op.SPEC_CONSTANT_OP ∷ []) refl i f e)
+  table_told : (is : List Instruction) → (declare_all (says is) nothing_declared is).table ≡ meanings is
+  table_told is = sym (ap (λ js. (declare_all (says is) nothing_declared js).table) (take_all is)) ∙ declared-whole is
 
-  not_local : (b : Bool) → (b ≡ true → false ≡ true) → b ≡ false
-  not_local true h = sym (h refl)
-  not_local false h = refl
+  specialised_told : (is : List Instruction) → (declare_all (says is) nothing_declared is).specialised ≡ specialised is
+  specialised_told is = sym (ap (λ js. (declare_all (says is) nothing_declared js).specialised) (take_all is))
 
-  declares_none : (all : List Statement) (d : Declared) (i : Instruction) → F i → keep i ≡ false → (is_one_of local_kinds (opcode i) ≡ true → d.begun ≡ true)
-      → declare all d i ≡ d
-  declares_none all d i f e l = by d.begun d.table d.specialised l
-    where
-      by : (b : Bool) (table : Table) (ids : List ℕ) → (is_one_of local_kinds (opcode i) ≡ true → b ≡ true)
-          → declare all (record { begun = b; table = table; specialised = ids }) i ≡ record { begun = b; table = table; specialised = ids }
-      by true table ids l = refl
-      by false table ids l = λ k. record {
-        begun = no_function gone keep before after thin facts i f e k;
-        table = with_entry table (dropped_entry gone i (f.dropped e) all table (not_local (is_one_of local_kinds (opcode i)) l) k);
-        specialised = cond (not_specialised all ids i f e k) (ids ++ slice_index i.words 2 ∷ []) ids;
-      }
+  same_meaning : (id : ℕ) → Stays gone id → meaning (meanings after) id ≡ meaning (meanings before) id
+  same_meaning id s =
+      sym (ap (λ (t : Table). meaning t id) (table_told after)) ∙ all_declared.meanings id s ∙ ap (λ (t : Table). meaning t id) (table_told before)
 
-  -- ---- what is kept declares the same
+  same_special : (id : ℕ) → Stays gone id → is_one_of (specialised after) id ≡ is_one_of (specialised before) id
+  same_special id s =
+      sym (ap (λ (ids : List ℕ). is_one_of ids id) (specialised_told after)) ∙ all_declared.specialised id s
+      ∙ ap (λ (ids : List ℕ). is_one_of ids id) (specialised_told before)
 
-  -- by induction on the members
-  same_members_of : (table : Table) (id n : ℕ) (ts : List ℕ) → members_of (says after) table id n ts ≡ members_of (says before) table id n ts
-  same_members_of table id n [] = refl
-  same_members_of table id n (t ∷ ts) =
-      ap₂ (λ o v. Member (first_literal o) (is_some v) (type_at table t) (members_of (says after) table id (suc n) ts))
-      (same_members gone keep before after thin facts id n decoration.OFFSET) (same_members gone keep before after thin facts id n decoration.VOLATILE)
-      ∙ ap (λ m.
-      Member (first_literal (member_decorated (says before) id n decoration.OFFSET)) (is_some (member_decorated (says before) id n decoration.VOLATILE))
-      (type_at table t) m)
-      (same_members_of table id (suc n) ts)
-
-  stride : (r : ℕ) → decorated (says after) r decoration.ARRAY_STRIDE ≡ decorated (says before) r decoration.ARRAY_STRIDE
-  stride r = same_kept gone keep before after thin facts r decoration.ARRAY_STRIDE refl
-
-  spec_id : (r : ℕ) → decorated (says after) r decoration.SPEC_ID ≡ decorated (says before) r decoration.SPEC_ID
-  spec_id r = same_kept gone keep before after thin facts r decoration.SPEC_ID refl
-
-  same_defined : (table : Table) (st : Statement) → defined (says after) [] table st ≡ defined (says before) [] table st
-  same_defined table (states.TypeArray r e l) = ap (λ o. Some (r, IsType (Array (first_literal o) (length_at table l) (type_at table e)))) (stride r)
-  same_defined table (states.TypeRuntimeArray r e) = ap (λ o. Some (r, IsType (RuntimeArray (first_literal o) (type_at table e)))) (stride r)
-  same_defined table (states.TypeStruct r ms) = ap (λ m. Some (r, IsType (Struct m))) (same_members_of table r 0 ms)
-  same_defined table (states.SpecConstant t r ws) = ap (λ o. Some (r, IsConstant (type_at table t) (given o [] (type_at table t) ws))) (spec_id r)
-  same_defined table st = refl
-
-  same_entry_of : (table : Table) (sts : List Statement) → entry_of (says after) table sts ≡ entry_of (says before) table sts
-  same_entry_of table [] = refl
-  same_entry_of table (st ∷ sts) = same_defined table st
-
-  same_specialised : (ids : List ℕ) (i : Instruction) → is_specialised (says after) ids i ≡ is_specialised (says before) ids i
-  same_specialised ids i =
-      ap (λ b.
-      cond (is_one_of (op.SPEC_CONSTANT_TRUE ∷ op.SPEC_CONSTANT_FALSE ∷ op.SPEC_CONSTANT ∷ []) (opcode i)) b
-      (is_one_of (op.SPEC_CONSTANT_COMPOSITE ∷ op.SPEC_CONSTANT_OP ∷ []) (opcode i) && list_any (is_one_of ids) (words_with is_used_id i)))
-      (ap is_some (spec_id (slice_index i.words 2)))
-
-  same_declare : (d : Declared) (i : Instruction) → declare (says after) d i ≡ declare (says before) d i
-  same_declare d i =
-      ap₂ (λ e s. record {
-        begun = d.begun || is_function i;
-        table = cond d.begun d.table (with_entry d.table e);
-        specialised = cond (not d.begun && s) (d.specialised ++ slice_index i.words 2 ∷ []) d.specialised;
-      }) (same_entry_of d.table (said i.words [])) (same_specialised d.specialised i)
-
-  -- ---- so the tables are the same
-
-  abbrev Same : List Instruction → List Instruction → Type 0
-  Same is js = (d : Declared) → Local keep d.begun is → declare_all (says after) d js ≡ declare_all (says before) d is
-
-  or_none : (b : Bool) → (b || false) ≡ b
-  or_none true = refl
-  or_none false = refl
-
-  drops : (i : Instruction) (is js : List Instruction) → F i → keep i ≡ false → Same is js → Same (i ∷ is) js
-  drops i is js f e h d l =
-      h d (subst (λ b. Local keep b is) (ap (λ b. d.begun || b) (no_function gone keep before after thin facts i f e) ∙ or_none d.begun) l.1)
-      ∙ sym (ap (λ d. declare_all (says before) d is) (declares_none (says before) d i f e (l.0 e)))
-
-  keeps : (i j : Instruction) (is js : List Instruction) → F i → keep i ≡ true → j.words ≡ i.words → Same is js → Same (i ∷ is) (j ∷ js)
-  keeps i j is js f e w h d l =
-      h (declare (says after) d j) (subst (λ ws. Local keep (d.begun || is_function (inst ws)) is) (sym w) l.1)
-      ∙ ap (λ d. declare_all (says before) d is) (ap (λ ws. declare (says after) d (inst ws)) w ∙ same_declare d i)
-
-  all_declared : Same before after
-  all_declared = walk keep F Same (λ d l. refl) drops keeps before after facts thin.words
-
-  same_declared : declared_before after (length after) ≡ declared_before before (length before)
-  same_declared =
-      ap (λ is. declare_all (says after) nothing_declared is) (take_all after) ∙ all_declared nothing_declared (local keep false before thin.locals)
-      ∙ sym (ap (λ is. declare_all (says before) nothing_declared is) (take_all before))
-
-  same_meanings : meanings after ≡ meanings before
-  same_meanings = sym (declared-whole after) ∙ ap (λ (d : Declared). d.table) same_declared ∙ declared-whole before
-
-  same_ids : specialised after ≡ specialised before
-  same_ids = ap (λ (d : Declared). d.specialised) same_declared
-
-  pub same_known : (id k : ℕ) → known_word after id k ≡ known_word before id k
-  same_known id k = ap₂ (λ ids table. known_of ids table id k) same_ids same_meanings
+  pub same_known : (id k : ℕ) → Stays gone id → known_word after id k ≡ known_word before id k
+  same_known id k s = ap₂ (λ b m. word_in (kind_in b (constant_words m)) (constant_words m) k) (same_special id s) (same_meaning id s)
 
   -- ---- lengths
 
@@ -189,38 +110,86 @@ module _ (gone : ℕ → Bool) (keep : Instruction → Bool) (before after : Lis
   same_length : (id : ℕ) → Stays gone id → is_constant before id ≡ true → known_length after id ≡ known_length before id
   unfolding known_length
   same_length id s h =
-      ap₂ (λ (signed : Bool) (o : Option ℕ). option_and_then (some_length signed) (cond (nat_lt 0 id) o None)) (same_signed id s h) (same_known id 0)
+      ap₂ (λ (signed : Bool) (o : Option ℕ). option_and_then (some_length signed) (cond (nat_lt 0 id) o None)) (same_signed id s h) (same_known id 0 s)
 
   -- ---- forms
 
-  no_form : (table : FormTable) (i : Instruction) → F i → keep i ≡ false → form_of before table i ≡ None
-  no_form table i f e =
-      none_by (is_one_of plain_types (opcode i)) (opcode i == op.TYPE_ARRAY) (opcode i == op.TYPE_STRUCT) _ _ _
-      (not_dropped gone keep before after thin facts plain_types refl i f e)
-      (or_false gone keep before after thin facts (opcode i == op.TYPE_ARRAY) (not_dropped gone keep before after thin facts (op.TYPE_ARRAY ∷ []) refl i f e))
-      (or_false gone keep before after thin facts (opcode i == op.TYPE_STRUCT) (not_dropped gone keep before after thin facts (op.TYPE_STRUCT ∷ []) refl i f e))
+  -- the tables have the same forms for what stays
+  abbrev SameTables : (old new : FormTable) → Type 0
+  SameTables old new = (t : ℕ) → Stays gone t → form_at new t ≡ form_at old t
 
   same_length_at : (i : Instruction) → F i → keep i ≡ true → (opcode i == op.TYPE_ARRAY) ≡ true → form.length_at after (slice_index i.words 3) ≡ form.length_at before (slice_index i.words 3)
   same_length_at i f e h =
       let stays : Stays gone (slice_index i.words 3) =
-      used_word (Stays gone) i f.whole (f.kept e).used 2 (ap (word_uses 2) (eqb-true (opcode i) op.TYPE_ARRAY h) ∙ array_uses) in
+      used_word (Stays gone) i f.whole (f.kept e).used 2 (ap (word_uses 2) (eqb-true (opcode i) op.TYPE_ARRAY h) ∙ array_uses.1) in
       ap (λ o. option_map_or form.Known o (form.Constant (slice_index i.words 3))) (same_length (slice_index i.words 3) stays (f.length h).0)
 
-  same_form : (table : FormTable) (i : Instruction) → F i → keep i ≡ true → form_of after table i ≡ form_of before table i
-  same_form table i f e =
-      ap (λ z. cond (is_one_of plain_types (opcode i)) (Some (form.Plain (slice_index i.words 1))) z)
+  -- by induction on the members
+  same_parts : (old new : FormTable) → SameTables old new → (front : Parts) (ts : List ℕ) → AllByRecursion (Stays gone) ts → parts_behind new front ts ≡ parts_behind old front ts
+  same_parts old new same front [] s = refl
+  same_parts old new same front (t ∷ ts) s =
+      ap (option_and_then (λ f. parts_behind new (Part front f) ts)) (same t s.0) ∙ by (form_at old t) (λ f. same_parts old new same (Part front f) ts s.1)
+    where
+      by : (o : Option Form) → ((f : Form) → parts_behind new (Part front f) ts ≡ parts_behind old (Part front f) ts)
+          → option_and_then (λ f. parts_behind new (Part front f) ts) o ≡ option_and_then (λ f. parts_behind old (Part front f) ts) o
+      by None h = refl
+      by (Some f) h = h f
+
+  same_form : (old new : FormTable) → SameTables old new → (i : Instruction) → F i → keep i ≡ true → form_of after new i ≡ form_of before old i
+  same_form old new same i f e =
+      where_true (is_one_of plain_types (opcode i)) _ _ _ _ (λ h. refl)
       (where_true (opcode i == op.TYPE_ARRAY) _ _ _ _
-      (λ h. ap (λ l. option_map (form.Array l) (form_at table (slice_index i.words 2))) (same_length_at i f e h)) refl)
+      (λ h. ap₂ (λ l o. option_map (form.Array l) o) (same_length_at i f e h)
+      (same (slice_index i.words 2)
+      (used_word (Stays gone) i f.whole (f.kept e).used 1 (ap (word_uses 1) (eqb-true (opcode i) op.TYPE_ARRAY h) ∙ array_uses.0))))
+      (where_true (opcode i == op.TYPE_STRUCT) _ _ _ _
+      (λ h. ap (option_map form.Struct)
+      (same_parts old new same NoPart (drop 2 i.words)
+      (used_words (Stays gone) i f.whole (f.kept e).used 1 (ap (end_uses 1) (eqb-true (opcode i) op.TYPE_STRUCT h) ∙ struct_uses)))) refl))
+
+  -- a type that has a form and is dropped has gone
+  other_form : (i : Instruction) → F i → keep i ≡ false → (table : FormTable) (g : Form) → form_of before table i ≡ Some g → (t : ℕ) → Stays gone t
+      → nat_eq t (slice_index i.words 1) ≡ false
+  other_form i f e table g h t s =
+      ap (nat_eq t) (sym (word_behind i.words 0))
+      ∙ sym (defines_result i t (slice_index (drop 1 i.words) 0)
+      (defined-plain i f.whole (each (λ o. row_test first_plain (row_of o)) formed are_plain (opcode i) (has_form table (opcode i) i.words g h))))
+      ∙ defines_none gone keep before facts t s i f e
+    where
+      has_form : (table : FormTable) (o : ℕ) (ws : List ℕ) (g : Form) → form_by before table o ws ≡ Some g → is_one_of formed o ≡ true
+      has_form table o ws g h =
+          by_form (is_one_of plain_types o) (o == op.TYPE_ARRAY) (o == op.TYPE_STRUCT) (Some (form.Plain (slice_index ws 1)))
+          (option_map (form.Array (form.length_at before (slice_index ws 3))) (form_at table (slice_index ws 2)))
+          (option_map form.Struct (parts_behind table NoPart (drop 2 ws))) g h
+
+  dropped_forms : (i : Instruction) → F i → keep i ≡ false → (old new : FormTable) → SameTables old new
+      → SameTables (with_form old (slice_index i.words 1) (form_of before old i)) new
+  dropped_forms i f e old new same t s = same t s ∙ sym (by (form_of before old i) refl)
+    where
+      by : (o : Option Form) → form_of before old i ≡ o → form_at (with_form old (slice_index i.words 1) o) t ≡ form_at old t
+      by None h = refl
+      by (Some g) h = lookup_other t old (slice_index i.words 1, g) (other_form i f e old g h t s)
+
+  kept_forms : (i : Instruction) → F i → keep i ≡ true → (old new : FormTable) → SameTables old new
+      → SameTables (with_form old (slice_index i.words 1) (form_of before old i)) (with_form new (slice_index i.words 1) (form_of after new i))
+  kept_forms i f e old new same t s =
+      ap (λ o. form_at (with_form new (slice_index i.words 1) o) t) (same_form old new same i f e) ∙ by (form_of before old i)
+    where
+      by : (o : Option Form) → form_at (with_form new (slice_index i.words 1) o) t ≡ form_at (with_form old (slice_index i.words 1) o) t
+      by None = same t s
+      by (Some g) = lookup_more t new old (slice_index i.words 1, g) (same t s)
 
   abbrev SameForms : List Instruction → List Instruction → Type 0
-  SameForms is js = (table : FormTable) → forms_behind after table js ≡ forms_behind before table is
+  SameForms is js = (old new : FormTable) → SameTables old new → SameTables (forms_behind before old is) (forms_behind after new js)
 
-  pub same_forms : forms after ≡ forms before
+  pub same_forms : (t : ℕ) → Stays gone t → form_at (forms after) t ≡ form_at (forms before) t
   unfolding forms
   same_forms =
-      walk keep F SameForms (λ table. refl)
-      (λ i is js f e h table. h table ∙ sym (ap (λ o. forms_behind before (with_form table (slice_index i.words 1) o) is) (no_form table i f e)))
-      (λ i j is js f e w h table. h (with_form table (slice_index j.words 1) (form_of after table j))
-      ∙ ap (λ t. forms_behind before t is)
-      (ap (λ ws. with_form table (slice_index ws 1) (form_of after table (inst ws))) w ∙ ap (with_form table (slice_index i.words 1)) (same_form table i f e)))
-      before after facts thin.words []
+      walk keep F SameForms (λ old new same. same)
+      (λ i is js f e h old new same.
+      h (with_form old (slice_index i.words 1) (form_of before old i)) new (dropped_forms i f e old new same))
+      (λ i j is js f e w h old new same.
+      h (with_form old (slice_index i.words 1) (form_of before old i)) (with_form new (slice_index j.words 1) (form_of after new j))
+      (subst (λ ws. SameTables (with_form old (slice_index i.words 1) (form_of before old i)) (with_form new (slice_index ws 1) (form_of after new (inst ws)))) (sym w)
+      (kept_forms i f e old new same)))
+      before after facts thin.words [] [] (λ t s. refl)

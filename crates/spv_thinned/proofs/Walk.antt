@@ -1,12 +1,10 @@
 -- Induction on what is left of a module, along the module.
-use Rattle.std.proofs.Common.{◌≡◌, ℕ, suc, Bool, true, false, cond, ◌||◌, List, [], ◌∷◌, drop, take, Some, refl, sym, ap, ◌∙◌, subst}
-use Rattle.std.specs.List.{AllByRecursion, filter, find, list_any, slice_get}
-use Rattle.spv_module.specs.Code.{is_function, is_line}
-use Rattle.spv_module.specs.Instruction.{Instruction, opcode}
+use Rattle.std.proofs.Common.{◌≡◌, ℕ, suc, Bool, true, false, cond, List, [], ◌∷◌, drop, Some, refl, sym, ap, ◌∙◌, subst}
+use Rattle.std.specs.List.{AllByRecursion, filter, find, slice_get}
+use Rattle.spv_module.specs.Code.{is_line}
+use Rattle.spv_module.specs.Instruction.{Instruction}
 use Rattle.spv_meaning.specs.Statements.{words_of}
-use Rattle.spv_typing.specs.Kinds.{is_one_of}
 use Rattle.spv_signatures.specs.Functions.{leading_parameters}
-use Rattle.spv_thinned.specs.Thinned.{local_kinds}
 
 -- the words of an instruction, wherever it stands
 abbrev pub inst : List ℕ → Instruction
@@ -50,25 +48,3 @@ pub behind_none : (keep : Instruction → Bool) (is : List Instruction)
     → BehindNone keep is
 behind_none keep [] h = tt
 behind_none keep (i ∷ is) h = (h 0 i refl, behind_none keep is (λ k. h (suc k)))
-
-or_true : (b : Bool) → (b || false) ≡ true → b ≡ true
-or_true true h = refl
-or_true false h = h
-
-one_more : (a b c : Bool) → ((a || b) || c) ≡ (a || (b || c))
-one_more true b c = refl
-one_more false b c = refl
-
--- variables and OpUndef are dropped where a function has begun
-abbrev pub Local : (keep : Instruction → Bool) (begun : Bool) → List Instruction → Type 0
-Local keep begun [] = Unit {0}
-Local keep begun (i ∷ is) = (keep i ≡ false → is_one_of local_kinds (opcode i) ≡ true → begun ≡ true) × Local keep (begun || is_function i) is
-
-pub local : (keep : Instruction → Bool) (begun : Bool) (is : List Instruction)
-    → ((k : ℕ) (i : Instruction) → slice_get is k ≡ Some i → keep i ≡ false → is_one_of local_kinds (opcode i) ≡ true → (begun || list_any is_function (take k is)) ≡ true)
-    → Local keep begun is
-local keep begun [] h = tt
-local keep begun (i ∷ is) h = (
-  λ e o. or_true begun (h 0 i refl e o),
-  local keep (begun || is_function i) is (λ k j at e o. one_more begun (is_function i) (list_any is_function (take k is)) ∙ h (suc k) j at e o),
-)

@@ -6,7 +6,6 @@ use Rattle.spv_module.specs.Code.{is_line}
 use Rattle.spv_module.specs.Instruction.{Instruction, opcode}
 use Rattle.spv_typing.specs.Kinds.{is_closed, is_constant, is_int, is_one_of, type_of}
 use Rattle.spv_typing.specs.Types.{array_fits, type_fits}
-use Rattle.spv_composites.specs.Forms.{FormTable, form_at}
 use Rattle.spv_declarations.specs.Declarations.{declared_before}
 use Rattle.spv_declarations.specs.Laws.{IsUnbroken}
 use Rattle.spv_declarations.proofs.Modules.{unbroken}
@@ -22,6 +21,9 @@ use Rattle.spv_thinned.proofs.Tables.{same_forms, same_known}
 
 not_line : (i : Instruction) → (opcode i == op.TYPE_ARRAY) ≡ true → is_line i ≡ false
 not_line i h = ap (λ (o : ℕ). o == op.LINE || o == op.NO_LINE) (eqb-true (opcode i) op.TYPE_ARRAY h)
+
+operation_not_line : (i : Instruction) → opcode i ≡ op.SPEC_CONSTANT_OP → is_line i ≡ false
+operation_not_line i h = ap (λ (o : ℕ). o == op.LINE || o == op.NO_LINE) h
 
 array_fits_by : (insts : List Instruction) (i : Instruction) → (opcode i == op.TYPE_ARRAY) ≡ true → type_fits insts i ≡ array_fits insts (slice_index i.words 2) (slice_index i.words 3)
 unfolding type_fits
@@ -48,6 +50,7 @@ facts_of gone keep before after h thin =
       dropped = thin.dropped k i at;
       kept = thin.kept k i at;
       length = length_constant before h k i at;
+      operation = λ is. (keeps before (declared_before before k) k i (operation_not_line i is) (unbroken before (suc k) h.unrefused k i (omega arith) at)).operations;
     })
 
 pub thinned_is_alike : ThinnedIsAlike
@@ -61,9 +64,9 @@ thinned_is_alike gone keep before after h thin =
       loose = λ id s loose. ap (is_one_of firm_kinds) (same_kind gone keep before after thin facts id s) ∙ loose;
       taken = λ id s firm i e. (kept_definition gone keep before facts id s i e).1.used;
       outside = λ id s. same_outside gone keep before after thin facts id s;
-      decorations = λ id d s. same_decorations gone keep before after thin facts id d s;
-      known = λ id k s. same_known gone keep before after thin facts id k;
-      forms = λ t s. ap (λ (table : FormTable). form_at table t) (same_forms gone keep before after thin facts);
+      decorations = λ id d s. same_decorations gone keep before after thin facts id s d;
+      known = λ id k s. same_known gone keep before after thin facts id k s;
+      forms = λ t s. same_forms gone keep before after thin facts t s;
       parameters = λ f s. same_parameters gone keep before after thin facts f s;
       parameters_stay = λ f s. parameters_stay gone keep before after thin facts f;
       thirds = λ id s loose none. same_word gone keep before after thin facts id s 2;

@@ -1,15 +1,17 @@
 -- 304: constants fit alike, since their types, constituents and lengths stay.
-use Rattle.std.proofs.Common.{◌≡◌, ℕ, Bool, true, not, ◌==◌, ◌&&◌, List, [], ◌∷◌, drop, length, refl, ap, ap₂, ◌∙◌}
+use Rattle.std.proofs.Common.{◌≡◌, ℕ, Bool, true, not, nat_le, ◌==◌, ◌&&◌, List, [], ◌∷◌, drop, length, refl, ap, ap₂, ◌∙◌}
 use Rattle.std.specs.List.{AllByRecursion, list_all, list_any, slice_index}
 use Rattle.spv_opcodes.specs.declared.op.TheConstants as op
 use Rattle.spv_grammar.specs.Table.{row_of}
 use Rattle.spv_module.specs.Instruction.{Instruction, opcode}
+use Rattle.spv_meaning.specs.Constants.{length_in}
 use Rattle.spv_typing.specs.Kinds.{component, component_count, element, has_type, is_array, is_one_of, is_spec, is_struct, is_vector, length_id, members, spec_constants}
 use Rattle.spv_declarations.specs.Constants.{are_of, composite_fits, constant_fits, has_length}
 use Rattle.spv_declarations.specs.Declarations.{Declared}
 use Rattle.spv_alike_uses.specs.Laws.{UsesWhatStays}
-use Rattle.spv_alike_uses.proofs.Lookups.{Case, In, all_on, and_on, by_one, on, same_array, same_bool, same_closed, same_component, same_component_count, same_element, same_has_type, same_int, same_length_id, same_members, same_struct, same_vector, where_true}
+use Rattle.spv_alike_uses.proofs.Lookups.{Case, In, all_on, and_on, by_one, length_stays, on, same_array, same_bool, same_closed, same_component, same_component_count, same_element, same_has_type, same_int, same_length_id, same_members, same_struct, same_vector, where_true}
 use Rattle.spv_alike_uses.proofs.Words.{one_word, word, words}
+use Rattle.spv_thinned.proofs.Declared.{Agree}
 
 module _ (c : Case) where
   -- by induction on both lists
@@ -22,16 +24,23 @@ module _ (c : Case) where
   all_typed : (t : ℕ) (ids : List ℕ) → AllByRecursion (In c) ids → list_all (has_type c.after t) ids ≡ list_all (has_type c.before t) ids
   all_typed t ids all = all_on (In c) (has_type c.after t) (has_type c.before t) (same_has_type c t) ids all
 
-  same_composite : (d : Declared) (t : ℕ) (ids : List ℕ) → In c t → AllByRecursion (In c) ids → composite_fits c.after d t ids ≡ composite_fits c.before d t ids
-  same_composite d t ids g all =
+  -- where the same is declared of ids that stay
+  same_has_length : (old new : Declared) → Agree c.gone old new → (id n : ℕ) → In c id → has_length new id n ≡ has_length old id n
+  same_has_length old new agree id n g =
+      ap₂ (λ b m. not b && (nat_le 1 n && length_in m == n)) (agree.specialised id g) (agree.meanings id g)
+
+  same_composite : (old new : Declared) → Agree c.gone old new → (t : ℕ) (ids : List ℕ) → In c t → AllByRecursion (In c) ids
+      → composite_fits c.after new t ids ≡ composite_fits c.before old t ids
+  same_composite old new agree t ids g all =
       on (is_vector c.after t) (is_vector c.before t) _ _ _ _ (same_vector c t g)
       (λ h.
       ap₂ (λ n u. (n == length ids) && list_all (has_type c.after u) ids) (same_component_count c t g h) (same_component c t g h)
       ∙ ap (λ z. (component_count c.before t == length ids) && z) (all_typed (component c.before t) ids all))
       (on (is_array c.after t) (is_array c.before t) _ _ _ _ (same_array c t g)
       (λ h.
-      ap₂ (λ n u. has_length d n (length ids) && list_all (has_type c.after u) ids) (same_length_id c t g h) (same_element c t g h)
-      ∙ ap (λ z. has_length d (length_id c.before t) (length ids) && z) (all_typed (element c.before t) ids all))
+      ap₂ (λ n u. has_length new n (length ids) && list_all (has_type c.after u) ids) (same_length_id c t g h) (same_element c t g h)
+      ∙ ap₂ (λ (a b : Bool). a && b) (same_has_length old new agree (length_id c.before t) (length ids) (length_stays c t g h))
+      (all_typed (element c.before t) ids all))
       (and_on (is_struct c.after t) (is_struct c.before t) _ _ (same_struct c t g)
       (λ h. ap (λ ts. are_of c.after ts ids) (same_members c t g h) ∙ same_are_of (members c.before t) ids all)))
 
@@ -41,9 +50,9 @@ module _ (c : Case) where
       (λ id g. by_one c (λ test w ws. not (list_any test spec_constants)) true (λ w ws. refl) id g) ids all
 
   module _ (i : Instruction) (uses : UsesWhatStays c.gone i) where
-    pub same_constant_fits : (d : Declared) → constant_fits c.after d i ≡ constant_fits c.before d i
+    pub same_constant_fits : (old new : Declared) → Agree c.gone old new → constant_fits c.after new i ≡ constant_fits c.before old i
     unfolding row_of
-    same_constant_fits d =
+    same_constant_fits old new agree =
         let t = slice_index i.words 1 in
         let truths : List ℕ = op.CONSTANT_TRUE ∷ op.CONSTANT_FALSE ∷ op.SPEC_CONSTANT_TRUE ∷ op.SPEC_CONSTANT_FALSE ∷ [] in
         let numbers : List ℕ = op.CONSTANT ∷ op.SPEC_CONSTANT ∷ [] in
@@ -53,9 +62,9 @@ module _ (c : Case) where
         (where_true (opcode i == op.CONSTANT_NULL) _ _ _ _ (λ h. same_closed c t (word c i uses 0 op.CONSTANT_NULL refl h))
         (where_true (opcode i == op.UNDEF) _ _ _ _ (λ h. same_closed c t (word c i uses 0 op.UNDEF refl h))
         (where_true (opcode i == op.SPEC_CONSTANT_COMPOSITE) _ _ _ _
-        (λ h. same_composite d t (drop 3 i.words) (word c i uses 0 op.SPEC_CONSTANT_COMPOSITE refl h) (words c i uses 2 op.SPEC_CONSTANT_COMPOSITE refl h))
+        (λ h. same_composite old new agree t (drop 3 i.words) (word c i uses 0 op.SPEC_CONSTANT_COMPOSITE refl h) (words c i uses 2 op.SPEC_CONSTANT_COMPOSITE refl h))
         (where_true (opcode i == op.CONSTANT_COMPOSITE) _ _ _ _
         (λ h.
         let all = words c i uses 2 op.CONSTANT_COMPOSITE refl h in
-        ap₂ (λ (a b : Bool). a && b) (same_composite d t (drop 3 i.words) (word c i uses 0 op.CONSTANT_COMPOSITE refl h) all) (no_specs (drop 3 i.words) all))
+        ap₂ (λ (a b : Bool). a && b) (same_composite old new agree t (drop 3 i.words) (word c i uses 0 op.CONSTANT_COMPOSITE refl h) all) (no_specs (drop 3 i.words) all))
         refl)))))

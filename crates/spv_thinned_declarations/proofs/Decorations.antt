@@ -18,7 +18,8 @@ use Rattle.spv_alike_uses.specs.Laws.{UsesWhatStays}
 use Rattle.spv_alike_uses.proofs.Lookups.{Case, In, and_on, by_one, component_stays, pointee_stays, same_array, same_component, same_component_count, same_constant, same_ends_open, same_has_decoration, same_has_type, same_int, same_pointee, same_runtime_array, same_struct, same_type_of, same_vector, type_of_stays, where_true}
 use Rattle.spv_alike_uses.proofs.Words.{word, words}
 use Rattle.spv_thinned.specs.Thinned.{IsKept}
-use Rattle.spv_thinned_declarations.proofs.Uses.{is_typed, result_stays, uses_what_stays}
+use Rattle.spv_thinned.proofs.ReadIds.{result_stays}
+use Rattle.spv_thinned_declarations.proofs.Uses.{is_typed, uses_what_stays}
 
 module _ (c : Case) where
   same_triple : (t : ℕ) → In c t → is_triple c.after t ≡ is_triple c.before t

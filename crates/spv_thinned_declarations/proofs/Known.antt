@@ -13,8 +13,8 @@ use Rattle.spv_repeats.specs.Repeats as repeating
 use Rattle.spv_alike_uses.specs.Alike.{Stays}
 use Rattle.spv_thinned.specs.Thinned.{IsKept}
 use Rattle.spv_thinned.proofs.Definitions.{Fact, defines_none, same_defines}
+use Rattle.spv_thinned.proofs.Places.{itself}
 use Rattle.spv_thinned.proofs.Walk.{inst, walk}
-use Rattle.spv_thinned_declarations.proofs.Uses.{itself}
 
 -- any of some; induction on them
 any_on : (P : ℕ → Type 0) (f g : ℕ → Bool) → ((id : ℕ) → P id → f id ≡ g id) → (ids : List ℕ) → AllByRecursion P ids → list_any f ids ≡ list_any g ids

@@ -3,6 +3,5 @@ pub mod Types
 pub mod Operations
 pub mod Constants
 pub mod Decorations
-pub mod Declaring
 pub mod Known
 pub mod Whole

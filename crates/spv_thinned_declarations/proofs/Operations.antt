@@ -1,21 +1,21 @@
 -- 305: what OpSpecConstantOp computes of constants that stay fits alike.
 use Rattle.std.proofs.Common.{◌≡◌, ℕ, ◌+◌, Bool, true, false, not, ◌==◌, ◌&&◌, ◌||◌, List, [], ◌∷◌, drop, length, refl, ap, ap₂, ◌∙◌, eqb-true}
-use Rattle.std.specs.List.{AllByRecursion, list_all, slice_index}
+use Rattle.std.specs.List.{AllByRecursion, slice_index}
 use Rattle.std.specs.Option.{is_some}
 use Rattle.std.proofs.lemmas.Bool.{and_parts}
 use Rattle.spv_opcodes.specs.declared.op.TheConstants as op
 use Rattle.spv_grammar.specs.Table.{row_of}
 use Rattle.spv_module.specs.Instruction.{Instruction, IsInstruction, opcode, roles}
-use Rattle.spv_ids.specs.Ids.{used_ids}
 use Rattle.spv_typing.specs.declared.operations.Form.{Form}
 use Rattle.spv_typing.specs.declared.operations.Form.TheVariants.{Ints, Bools, Compares, Selects, Shuffles, Extracts, Inserts}
 use Rattle.spv_typing.specs.Kinds.{component, component_count, has_type, is_constant, is_vector, type_of}
 use Rattle.spv_typing.specs.Operations.{all_pick, all_shaped, components_fit, components_of, condition_fits, count_of, extract_fits, form_fits, form_of, has_shape, insert_fits, is_vector_of, literals_lead, operands_fit, select_fits, shape, shuffle_fits, spec_op_fits}
-use Rattle.spv_declarations.proofs.Operations.{FitsForm, fitting-form, operands-known, operands_for}
+use Rattle.spv_declarations.proofs.Operations.{FitsForm, fitting-form, operands_for}
 use Rattle.spv_declarations.proofs.Parts.{first_typed, row_test}
 use Rattle.spv_alike_uses.proofs.Lookups.{Case, In, all_on, and_on, by_one, same_component, same_component_count, same_constant, same_has_type, same_literals_lead, same_shape, same_type_of, same_vector, type_of_stays}
 use Rattle.spv_thinned.specs.Thinned.{IsKept}
-use Rattle.spv_thinned_declarations.proofs.Uses.{is_typed, type_stays}
+use Rattle.spv_thinned.proofs.ReadIds.{operands_stay, type_stays}
+use Rattle.spv_thinned_declarations.proofs.Uses.{is_typed}
 
 module _ (c : Case) where
   -- what is read of the type of a constant
@@ -105,20 +105,6 @@ module _ (c : Case) where
 
   -- ---- its operands stay
 
-  not_gone : (ids : List ℕ) → AllByRecursion (In c) ids → list_all (λ id. not (c.gone id)) ids ≡ true
-  not_gone [] all = refl
-  not_gone (id ∷ ids) all = ap₂ (λ (a b : Bool). not a && b) all.0 (not_gone ids all.1)
-
-  not_true : (b : Bool) → not b ≡ true → b ≡ false
-  not_true true h = absurd (cc h)
-  not_true false h = refl
-
-  none_gone : (ids : List ℕ) → list_all (λ id. not (c.gone id)) ids ≡ true → AllByRecursion (In c) ids
-  none_gone [] h = tt
-  none_gone (id ∷ ids) h =
-      let parts = and_parts (not (c.gone id)) (list_all (λ id. not (c.gone id)) ids) h in
-      (not_true (c.gone id) parts.0, none_gone ids parts.1)
-
   operation_typed : row_test first_typed (row_of op.SPEC_CONSTANT_OP) ≡ true
   unfolding row_of
   operation_typed = refl
@@ -128,9 +114,7 @@ module _ (c : Case) where
         → form_fits c.after (form_of (slice_index i.words 3)) (slice_index i.words 1) (drop 4 i.words) ≡ true
     fits_after is f =
         let type : In c (slice_index i.words 1) = type_stays c.gone i whole kept (is_typed (opcode i) op.SPEC_CONSTANT_OP is operation_typed) in
-        let operands : AllByRecursion (In c) (operands_for f.form (drop 4 i.words)) =
-        none_gone (operands_for f.form (drop 4 i.words))
-        (operands-known (λ id. not (c.gone id)) c.before i f.form whole is f.is f.fit (not_gone (used_ids i) kept.used)) in
+        let operands : AllByRecursion (In c) (operands_for f.form (drop 4 i.words)) = operands_stay c.gone c.before i whole kept is f in
         ap (λ o. form_fits c.after o (slice_index i.words 1) (drop 4 i.words)) f.is
         ∙ same_operands f.form (slice_index i.words 1) (drop 4 i.words) type operands ∙ f.fit
 

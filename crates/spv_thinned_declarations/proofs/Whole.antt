@@ -5,8 +5,11 @@ use Rattle.std.specs.Option.{option_map_or}
 use Rattle.std.proofs.lemmas.Bool.{and_parts}
 use Rattle.spv_opcodes.specs.declared.op.TheConstants as op
 use Rattle.spv_grammar.specs.Roles.{is_defined_id}
+use Rattle.spv_grammar.specs.Table.{row_of}
 use Rattle.spv_module.specs.Code.{is_line}
 use Rattle.spv_module.specs.Instruction.{Instruction, IsInstruction, opcode, roles, word_with}
+use Rattle.spv_meaning.specs.Constants.{pointer_at, pointer_in}
+use Rattle.spv_meaning.specs.Meanings.{is_laid}
 use Rattle.spv_meaning.specs.Statements.{words_of}
 use Rattle.spv_ids.specs.Ids.{id_rules, is_declaration, is_defined, used_ids}
 use Rattle.spv_repeats.specs.Repeats.{occurs, repeats}
@@ -15,28 +18,31 @@ use Rattle.spv_typing.specs.Operations.{spec_op_fits}
 use Rattle.spv_typing.specs.Types.{array_fits, type_fits}
 use Rattle.spv_decorations.specs.Globals.{global_fits}
 use Rattle.spv_decorations.specs.Targets.{decoration_fits}
+use Rattle.spv_declarations.specs.Depth.{is_laid_out}
 use Rattle.spv_declarations.specs.Broken.{declaration_rules, depth_fits, layout_fits, rules_at}
 use Rattle.spv_declarations.specs.Constants.{constant_fits}
 use Rattle.spv_declarations.specs.Declarations.{Declared, declare_all, declared_before, entry, nothing_declared, says}
 use Rattle.spv_declarations.specs.Laws.{IsUnbroken}
 use Rattle.spv_declarations.proofs.Modules.{unbroken}
+use Rattle.spv_declarations.proofs.Parts.{first_typed, row_test}
 use Rattle.spv_alike_uses.specs.Laws.{UsesWhatStays}
 use Rattle.spv_alike_uses.proofs.Lookups.{Case}
 use Rattle.spv_thinned.specs.Thinned.{IsKept, IsThinned}
 use Rattle.spv_thinned.proofs.Definitions.{Fact}
-use Rattle.spv_thinned.proofs.Walk.{Local, each_at, inst, local}
-use Rattle.spv_thinned.proofs.Whole.{thinned_is_alike}
+use Rattle.spv_thinned.proofs.Declared.{Agree, same_declared, same_entry}
+use Rattle.spv_thinned.proofs.ReadIds.{type_stays}
+use Rattle.spv_thinned.proofs.Walk.{inst}
+use Rattle.spv_thinned.proofs.Whole.{facts_of, thinned_is_alike}
 use Rattle.spv_norm_declarations.proofs.Outside.{get_behind, take_front}
 use Rattle.spv_norm_declarations.proofs.OutsideKnown.{ComesOf, comes_of}
 use Rattle.spv_norm_declarations.proofs.Rules.{KeepsAll, NoneAt, breaks_none, keeps_all, none_found}
 use Rattle.spv_thinned_declarations.specs.Laws.{ThinnedIsDeclared}
 use Rattle.spv_thinned_declarations.proofs.Constants.{same_constant_fits}
-use Rattle.spv_thinned_declarations.proofs.Declaring.{local_front, same_declared, same_entry}
 use Rattle.spv_thinned_declarations.proofs.Decorations.{same_decoration_fits, same_global_fits}
 use Rattle.spv_thinned_declarations.proofs.Known.{new_decoration_stays, new_type_stays, same_second, same_unknown}
 use Rattle.spv_thinned_declarations.proofs.Operations.{operations_stay}
 use Rattle.spv_thinned_declarations.proofs.Types.{same_type_fits}
-use Rattle.spv_thinned_declarations.proofs.Uses.{uses_what_stays}
+use Rattle.spv_thinned_declarations.proofs.Uses.{is_typed, uses_what_stays}
 
 -- ---- the same words
 
@@ -61,12 +67,11 @@ line_breaks_none : (insts : List Instruction) (d : Declared) (k : ℕ) (i : Inst
 unfolding rules_at
 line_breaks_none insts d k i e = ap (λ b. cond b [] (id_rules insts d.begun k i ++ declaration_rules insts d k i)) e
 
--- ---- what is known of each instruction
+variable_typed : row_test first_typed (row_of op.VARIABLE) ≡ true
+unfolding row_of
+variable_typed = refl
 
-array_by : (insts : List Instruction) (i : Instruction) → (opcode i == op.TYPE_ARRAY) ≡ true
-    → type_fits insts i ≡ array_fits insts (slice_index i.words 2) (slice_index i.words 3)
-unfolding type_fits
-array_by insts i h = rw (eqb-true (opcode i) op.TYPE_ARRAY h) refl
+-- ---- lists
 
 all_here : {A : Type 0} (P : A → Type 0) (xs : List A) (y : A) (ys : List A) → AllByRecursion P (xs ++ y ∷ ys) → P y
 all_here P [] y ys h = h.0
@@ -80,27 +85,11 @@ module _ (gone : ℕ → Bool) (keep : Instruction → Bool) (before after : Lis
   keeps_at : (k : ℕ) (i : Instruction) → slice_get before k ≡ Some i → is_line i ≡ false → KeepsAll before (declared_before before k) k i
   keeps_at k i at plain = keeps_all before (declared_before before k) k i plain (unbroken before (suc k) h.unrefused k i (omega arith) at)
 
-  -- the length of an array type is a constant of a type of integers
-  length_constant : (k : ℕ) (i : Instruction) → slice_get before k ≡ Some i → (opcode i == op.TYPE_ARRAY) ≡ true
-      → (is_constant before (slice_index i.words 3) ≡ true) × (is_int before (type_of before (slice_index i.words 3)) ≡ true)
-  length_constant k i at is =
-      let plain : is_line i ≡ false = ap (λ o. o == op.LINE || o == op.NO_LINE) (eqb-true (opcode i) op.TYPE_ARRAY is) in
-      let l = slice_index i.words 3 in
-      let fits = and_parts (is_closed before (slice_index i.words 2)) (is_constant before l && is_int before (type_of before l))
-      (sym (array_by before i is) ∙ (keeps_at k i at plain).kept.types) in
-      and_parts (is_constant before l) (is_int before (type_of before l)) fits.1
-
   abbrev F : Instruction → Type 0
   F i = Fact gone keep before i
 
   facts : AllByRecursion F before
-  facts =
-      each_at F before (λ k i at. record {
-        whole = h.whole k i at;
-        dropped = thin.dropped k i at;
-        kept = thin.kept k i at;
-        length = length_constant k i at;
-      })
+  facts = facts_of gone keep before after h thin
 
   abbrev c : Case
   c = record { gone = gone; before = before; after = after; unbroken = h; alike = thinned_is_alike gone keep before after h thin }
@@ -131,19 +120,42 @@ module _ (gone : ℕ → Bool) (keep : Instruction → Bool) (before after : Lis
     pre_facts : AllByRecursion F pre
     pre_facts = all_front F pre (i ∷ post) (subst (AllByRecursion F) cut facts)
 
-    abbrev d : Declared
-    d = declared_before before (length pre)
+    -- what is declared before the place, and what is declared by what is left there
+    abbrev old : Declared
+    old = declared_before before (length pre)
 
-    same_state : declare_all (says after) nothing_declared qs ≡ declared_before before (length pre)
-    same_state =
-        same_declared gone keep before after thin facts pre qs pre_facts same_before nothing_declared
-        (local_front keep false pre (i ∷ post) (subst (Local keep false) cut (local keep false before thin.locals)))
-        ∙ ap (declare_all (says before) nothing_declared) (sym front)
+    abbrev new : Declared
+    new = declare_all (says after) nothing_declared qs
+
+    agree : Agree gone (declared_before before (length pre)) (declare_all (says after) nothing_declared qs)
+    agree =
+        subst (λ is. Agree gone (declare_all (says before) nothing_declared is) new) (sym front)
+        (same_declared gone keep before after thin facts pre qs pre_facts same_before nothing_declared nothing_declared
+        (record { begun = refl; meanings = λ id s. refl; specialised = λ id s. refl }))
+
+    fact : F i
+    fact = all_here F pre i post (subst (AllByRecursion F) cut facts)
+
+    same_layout : layout_fits new i ≡ layout_fits old i
+    same_layout = by (opcode i == op.VARIABLE) refl
+      where
+        passes : (b c l : Bool) → (((b || true) || c) || l) ≡ true
+        passes true c l = refl
+        passes false c l = refl
+
+        by : (v : Bool) → (opcode i == op.VARIABLE) ≡ v
+            → (((new.begun || not v) || not (is_laid (slice_index i.words 3))) || is_laid_out (pointer_at new.table (slice_index i.words 1)).1)
+            ≡ (((old.begun || not v) || not (is_laid (slice_index i.words 3))) || is_laid_out (pointer_at old.table (slice_index i.words 1)).1)
+        by true e =
+            ap₂ (λ b m. ((b || false) || not (is_laid (slice_index i.words 3))) || is_laid_out (pointer_in m).1) agree.begun
+            (agree.meanings (slice_index i.words 1)
+            (type_stays gone i whole kept (is_typed (opcode i) op.VARIABLE (eqb-true (opcode i) op.VARIABLE e) variable_typed)))
+        by false e = passes new.begun _ _ ∙ sym (passes old.begun _ _)
 
     keeps : KeepsAll before (declared_before before (length pre)) (length pre) i
     keeps = keeps_at (length pre) i at plain
 
-    keeps_after : KeepsAll after (declared_before before (length pre)) (length qs) j
+    keeps_after : KeepsAll after (declare_all (says after) nothing_declared qs) (length qs) j
     keeps_after = record {
       kept = record {
         once =
@@ -151,24 +163,29 @@ module _ (gone : ℕ → Bool) (keep : Instruction → Bool) (before after : Lis
             ∙ same_second gone keep before facts pre qs pre_facts same_before i kept
             ∙ sym (ap (λ is. option_map_or (is_defined is) (word_with is_defined_id i) false) front) ∙ keeps.kept.once;
         known =
-            ap₂ (λ is ws. list_any (λ id. not (is_defined after id) || (is_declaration d.begun (inst ws) && not (is_defined is id))) (used_ids (inst ws)))
+            ap (λ b. list_any (λ id. not (is_defined after id) || (is_declaration b j && not (is_defined (take (length qs) after) id))) (used_ids j))
+            agree.begun
+            ∙ ap₂ (λ is ws. list_any (λ id. not (is_defined after id) || (is_declaration old.begun (inst ws) && not (is_defined is id))) (used_ids (inst ws)))
             front_after same
-            ∙ same_unknown gone keep before facts after pre qs pre_facts same_before thin.words (is_declaration d.begun i) (used_ids i) kept.used
-            ∙ sym (ap (λ is. list_any (λ id. not (is_defined before id) || (is_declaration d.begun i && not (is_defined is id))) (used_ids i)) front)
+            ∙ same_unknown gone keep before facts after pre qs pre_facts same_before thin.words (is_declaration old.begun i) (used_ids i) kept.used
+            ∙ sym (ap (λ is. list_any (λ id. not (is_defined before id) || (is_declaration old.begun i && not (is_defined is id))) (used_ids i)) front)
             ∙ keeps.kept.known;
         types = type_fits_words after i j same ∙ same_type_fits c i uses ∙ keeps.kept.types;
         new_type =
             ap₂ (λ is ws. occurs is (inst ws)) front_after same
             ∙ new_type_stays gone keep before facts pre qs pre_facts same_before i (sym (ap (λ is. occurs is i) front) ∙ keeps.kept.new_type);
         constants =
-            ap (λ ws. d.begun || constant_fits after d (inst ws)) same ∙ ap (λ b. d.begun || b) (same_constant_fits c i uses d) ∙ keeps.kept.constants;
+            ap (λ ws. new.begun || constant_fits after new (inst ws)) same
+            ∙ ap₂ (λ (a b : Bool). a || b) agree.begun (same_constant_fits c i uses old new agree) ∙ keeps.kept.constants;
         operations = spec_op_words after i j same ∙ operations_stay c i whole kept keeps.kept.operations;
         decorations = decoration_words after i j same ∙ same_decoration_fits c i whole kept ∙ keeps.kept.decorations;
-        layouts = ap (λ ws. layout_fits d (inst ws)) same ∙ keeps.kept.layouts;
-        globals = global_words after d.begun i j same ∙ same_global_fits c i whole kept d.begun ∙ keeps.kept.globals;
+        layouts = ap (λ ws. layout_fits new (inst ws)) same ∙ same_layout ∙ keeps.kept.layouts;
+        globals =
+            ap (λ b. global_fits after b j) agree.begun ∙ global_words after old.begun i j same ∙ same_global_fits c i whole kept old.begun
+            ∙ keeps.kept.globals;
         depths =
-            ap (λ ws. depth_fits (cond d.begun None (entry (says after) d.table (inst ws)))) same
-            ∙ ap (λ e. depth_fits (cond d.begun None e)) (same_entry gone keep before after thin facts d.table i) ∙ keeps.kept.depths;
+            ap₂ (λ b ws. depth_fits (cond b None (entry (says after) new.table (inst ws)))) agree.begun same
+            ∙ ap (λ e. depth_fits (cond old.begun None e)) (same_entry gone keep before after thin facts i fact stands old new agree) ∙ keeps.kept.depths;
       };
       new_decoration =
           ap₂ (λ is ws. repeats is (inst ws)) front_after same
@@ -176,9 +193,7 @@ module _ (gone : ℕ → Bool) (keep : Instruction → Bool) (before after : Lis
     }
 
     breaks_none_here : NoneAt after qs j
-    breaks_none_here =
-        breaks_none after (declare_all (says after) nothing_declared qs) (length qs) j
-        (subst (λ d. KeepsAll after d (length qs) j) (sym same_state) keeps_after)
+    breaks_none_here = breaks_none after (declare_all (says after) nothing_declared qs) (length qs) j keeps_after
 
   none_at : (qs : List Instruction) (j : Instruction) (rest : List Instruction) → after ≡ qs ++ j ∷ rest → NoneAt after qs j
   none_at qs j rest cut_after = by (is_line j) refl

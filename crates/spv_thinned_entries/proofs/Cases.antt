@@ -1,48 +1,18 @@
 -- A module and what is left of it, with what is known of both: ids that stay are defined by what is kept, with the same words.
-use Rattle.std.proofs.Common.{◌≡◌, ℕ, suc, Bool, true, false, ◌==◌, ◌&&◌, ◌||◌, List, Some, refl, sym, ap, ap₂, ◌∙◌, eqb-true, arith}
-use Rattle.std.specs.List.{AllByRecursion, slice_get, slice_index}
+use Rattle.std.proofs.Common.{◌≡◌, ℕ, Bool, ◌==◌, ◌&&◌, List, ap₂}
+use Rattle.std.specs.List.{AllByRecursion}
 use Rattle.spv_opcodes.specs.declared.op.TheConstants as op
-use Rattle.spv_module.specs.Code.{is_line}
-use Rattle.spv_module.specs.Instruction.{Instruction, opcode}
+use Rattle.spv_module.specs.Instruction.{Instruction}
 use Rattle.spv_ids.specs.Ids.{kind, word_of, words_of}
-use Rattle.spv_typing.specs.Kinds.{is_constant, is_int, type_of}
-use Rattle.spv_typing.specs.Types.{array_fits, type_fits}
-use Rattle.spv_typing.specs.Kinds.{is_closed}
-use Rattle.spv_declarations.specs.Declarations.{declared_before}
 use Rattle.spv_declarations.specs.Laws.{IsUnbroken}
-use Rattle.spv_declarations.proofs.Modules.{unbroken}
-use Rattle.spv_declarations.proofs.Unbroken.{keeps}
-use Rattle.spv_alike.proofs.Lookups.{and_left, and_right}
 use Rattle.spv_alike_uses.specs.Alike.{AreAlikeBut, Stays}
 use Rattle.spv_alike_uses.proofs.Lookups.{Case}
 use Rattle.spv_calls.specs.Calls.{is_global}
 use Rattle.spv_thinned.specs.Thinned.{IsThinned}
-use Rattle.spv_thinned.proofs.Walk.{each_at}
 use Rattle.spv_thinned.proofs.Definitions as definitions
 use Rattle.spv_thinned.proofs.Definitions.{Fact}
-use Rattle.spv_thinned.proofs.Whole.{thinned_is_alike}
+use Rattle.spv_thinned.proofs.Whole.{facts_of, thinned_is_alike}
 use Rattle.spv_thinned_entries.specs.Laws.{KeepsEntries}
-
--- ---- the length of an array type is a constant of a type of integers
-
-not_line : (i : Instruction) → (opcode i == op.TYPE_ARRAY) ≡ true → is_line i ≡ false
-not_line i h = ap (λ (o : ℕ). o == op.LINE || o == op.NO_LINE) (eqb-true (opcode i) op.TYPE_ARRAY h)
-
-array_fits_by : (insts : List Instruction) (i : Instruction) → (opcode i == op.TYPE_ARRAY) ≡ true → type_fits insts i ≡ array_fits insts (slice_index i.words 2) (slice_index i.words 3)
-unfolding type_fits
-array_fits_by insts i h = rw (eqb-true (opcode i) op.TYPE_ARRAY h) refl
-
-pub length_constant : (insts : List Instruction) → IsUnbroken insts → (k : ℕ) (i : Instruction) → slice_get insts k ≡ Some i → (opcode i == op.TYPE_ARRAY) ≡ true
-    → (is_constant insts (slice_index i.words 3) ≡ true) × (is_int insts (type_of insts (slice_index i.words 3)) ≡ true)
-length_constant insts h k i at is =
-    let types : type_fits insts i ≡ true =
-    (keeps insts (declared_before insts k) k i (not_line i is) (unbroken insts (suc k) h.unrefused k i (omega arith) at)).types in
-    let fits : array_fits insts (slice_index i.words 2) (slice_index i.words 3) ≡ true = sym (array_fits_by insts i is) ∙ types in
-    let right =
-    and_right (is_closed insts (slice_index i.words 2)) (is_constant insts (slice_index i.words 3) && is_int insts (type_of insts (slice_index i.words 3))) fits in (
-      and_left (is_constant insts (slice_index i.words 3)) (is_int insts (type_of insts (slice_index i.words 3))) right,
-      and_right (is_constant insts (slice_index i.words 3)) (is_int insts (type_of insts (slice_index i.words 3))) right,
-    )
 
 -- ---- the two modules
 
@@ -67,13 +37,7 @@ thinning gone keep before after h thin entries = record {
   unbroken = h;
   thin = thin;
   keeps_entries = entries;
-  facts =
-      each_at (Fact gone keep before) before (λ k i at. record {
-        whole = h.whole k i at;
-        dropped = thin.dropped k i at;
-        kept = thin.kept k i at;
-        length = length_constant before h k i at;
-      });
+  facts = facts_of gone keep before after h thin;
   alike = thinned_is_alike gone keep before after h thin;
 }
 

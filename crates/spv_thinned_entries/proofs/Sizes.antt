@@ -1,5 +1,5 @@
 -- 605: the modes are those before, and what they name stays.
-use Rattle.std.proofs.Common.{◌≡◌, inl, inr, ℕ, Bool, true, false, cond, not, nat_eq, nat_lt, ◌==◌, ◌&&◌, ◌||◌, List, [], ◌∷◌, filter, drop, Option, Some, None, refl, sym, ap, subst, ◌∙◌, true≢false, eqb-true}
+use Rattle.std.proofs.Common.{◌≡◌, inl, inr, ℕ, Bool, true, false, cond, not, nat_eq, nat_lt, ◌==◌, ◌&&◌, ◌||◌, List, [], ◌∷◌, filter, drop, Option, Some, None, refl, sym, ap, subst, ◌∙◌, eqb-true}
 use Rattle.std.specs.Prelude.{count_by}
 use Rattle.std.specs.List.{AllByRecursion, list_any, slice_index}
 use Rattle.spv_opcodes.specs.declared.op.TheConstants as op
@@ -12,16 +12,20 @@ use Rattle.spv_module.specs.Layout.{is_entry_point}
 use Rattle.spv_repeats.specs.Repeats.{is_workgroup_size}
 use Rattle.spv_typing.specs.Kinds.{is_constant, type_of}
 use Rattle.spv_typing.specs.Operations.{has_shape, shape}
-use Rattle.spv_walk.proofs.Unique.{both_left, both_right}
+use Rattle.spv_walk.proofs.Unique.{both_left}
 use Rattle.spv_alike_uses.proofs.Lookups.{and_on, same_constant, same_shape, same_type_of, type_of_stays}
-use Rattle.spv_alike_uses.proofs.Used.{end_uses, used_words}
+use Rattle.spv_alike_uses.proofs.Used.{end_uses, used_word, used_words, word_uses}
 use Rattle.spv_entries.specs.Sizes.{entry_function, id_function, is_mode, is_no_size, is_sized, literal_function, names, size_fits, sizes_all, sizes_unfit, some_names, two_name, unfit_function}
 use Rattle.spv_trees.specs.Standing.{OneOf}
 use Rattle.spv_norm_entries.proofs.Lists.{any_one, one_any, one_filtered}
 use Rattle.spv_thinned.proofs.Walk.{inst}
 use Rattle.spv_thinned_entries.proofs.Cases.{FactOf, In, Thinning, case_of}
 use Rattle.spv_thinned_entries.proofs.Kept.{Misses, all_kept, any_kept, any_on, any_same_words, count_kept, count_same_words}
-use Rattle.spv_thinned_entries.proofs.Modes.{MissesOf, constant_stays, entry_missing, id_misses, id_missing, literal_misses, literal_missing, missing}
+use Rattle.spv_thinned_entries.proofs.Modes.{MissesOf, entry_missing, id_misses, id_missing, literal_misses, literal_missing, missing, size_kept}
+
+target_used : word_uses 0 op.DECORATE ≡ true
+unfolding row_of
+target_used = refl
 
 size_uses : end_uses 2 op.EXECUTION_MODE_ID ≡ true
 unfolding row_of
@@ -106,33 +110,25 @@ module _ (t : Thinning) where
 
   -- ---- a constant that is the size of all
 
-  decoration_kept : (i : Instruction) → FactOf t i → sizes_all t.before i ≡ true → t.keep i ≡ true
-  decoration_kept i f h = by (t.keep i) refl
-    where
-      target : ℕ
-      target = slice_index i.words 1
-
-      decorates : opcode i ≡ op.DECORATE
-      decorates =
-          eqb-true (opcode i) op.DECORATE
-          (both_left (opcode i == op.DECORATE) (slice_index i.words 2 == decoration.BUILTIN && slice_index i.words 3 == builtin.WORKGROUP_SIZE)
-          (both_left (is_workgroup_size i) (is_constant t.before target) h))
-
-      by : (b : Bool) → t.keep i ≡ b → b ≡ true
-      by true e = refl
-      by false e =
-          absurd (true≢false
-          (sym ((f.dropped e).target decorates) ∙ constant_stays t target (both_right (is_workgroup_size i) (is_constant t.before target) h)))
+  -- the decoration is kept, and so its target stays
+  target_stays : (i : Instruction) → FactOf t i → t.keep i ≡ true → is_workgroup_size i ≡ true → In t (slice_index i.words 1)
+  target_stays i f e h =
+      used_word (In t) i f.whole (f.kept e).used 0
+      (ap (word_uses 0)
+      (eqb-true (opcode i) op.DECORATE
+      (both_left (opcode i == op.DECORATE) (slice_index i.words 2 == decoration.BUILTIN && slice_index i.words 3 == builtin.WORKGROUP_SIZE) h))
+      ∙ target_used)
 
   all_sized : list_any (sizes_all t.before) t.before ≡ true → list_any (sizes_all t.after) t.after ≡ true
   all_sized h =
       let r = any_one (sizes_all t.before) t.before h in
       let target : ℕ = slice_index r.0.words 1 in
-      let constant : is_constant t.before target ≡ true = both_right (is_workgroup_size r.0) (is_constant t.before target) r.2 in
-      let kept = decoration_kept r.0 (one_all (FactOf t) t.before r.0 t.facts r.1) r.2 in
+      let sizes : is_workgroup_size r.0 ≡ true = both_left (is_workgroup_size r.0) (is_constant t.before target) r.2 in
+      let kept : t.keep r.0 ≡ true = one_all (λ i. is_workgroup_size i ≡ true → t.keep i ≡ true) t.before r.0 (size_kept t) r.1 sizes in
+      let stays : In t target = target_stays r.0 (one_all (FactOf t) t.before r.0 t.facts r.1) kept sizes in
       any_same_words (λ ws. sizes_all t.after (inst ws)) t.after (filter t.keep t.before) t.thin.words
       ∙ one_any (sizes_all t.after) (filter t.keep t.before) r.0 (one_filtered t.keep t.before r.0 r.1 kept)
-      (ap (λ b. is_workgroup_size r.0 && b) (same_constant (case_of t) target (constant_stays t target constant)) ∙ r.2)
+      (ap (λ b. is_workgroup_size r.0 && b) (same_constant (case_of t) target stays) ∙ r.2)
 
   -- ---- the rule
 
