@@ -1,5 +1,5 @@
 -- What a module and what is left of it have in common: what stands outside functions, pointers, types, and what is known everywhere.
-use Rattle.std.proofs.Common.{◌≡◌, ◌⊎◌, inl, inr, ℕ, Bool, true, false, cond, ◌==◌, ◌&&◌, ◌||◌, List, [], ◌∷◌, ◌++◌, drop, filter, find, Option, Some, None, refl, sym, ap, ap₂, subst, ◌∙◌, true≢false}
+use Rattle.std.proofs.Common.{◌≡◌, ◌⊎◌, inl, inr, ℕ, Bool, true, false, cond, ◌==◌, ◌&&◌, ◌||◌, List, [], ◌∷◌, ◌++◌, drop, filter, find, Option, Some, None, refl, sym, ap, ap₂, subst, ◌∙◌, true≢false, eqb-true}
 use Rattle.std.specs.List.{AllByRecursion, list_all, list_any, slice_index}
 use Rattle.std.specs.Option.{option_map, option_map_or}
 use Rattle.spv_opcodes.specs.declared.op.TheConstants as op
@@ -17,10 +17,15 @@ use Rattle.spv_norm.specs.Norm.{outside}
 use Rattle.spv_norm_available.proofs.Known.{defined_outside, outside_defined, place_too}
 use Rattle.spv_typed_edits.specs.Edits.{is_type, type_kinds}
 use Rattle.spv_alike_uses.specs.Alike.{AreAlikeBut, Stays}
-use Rattle.spv_thinned.specs.Thinned.{IsKept, IsThinned, lasting_kinds}
+use Rattle.spv_thinned.specs.Thinned.{IsKept, IsThinned}
 use Rattle.spv_thinned.proofs.Definitions.{Fact, kept_definition, same_definition, same_defines, same_kind}
-use Rattle.spv_thinned.proofs.Places.{no_function, not_dropped}
-use Rattle.spv_thinned.proofs.Walk.{found, inst, walk}
+use Rattle.spv_thinned.proofs.Places.{no_function}
+use Rattle.spv_thinned.proofs.Walk.{each_at, found, inst, walk}
+use Rattle.spv_built_thinned.specs.Thinned.{KeepsTypes}
+
+pub all_both : {A : Type 0} (P Q : A → Type 0) (xs : List A) → AllByRecursion P xs → AllByRecursion Q xs → AllByRecursion (λ x. P x × Q x) xs
+all_both P Q [] h g = tt
+all_both P Q (x ∷ xs) h g = ((h.0, g.0), all_both P Q xs h.1 g.1)
 
 -- ---- an id that nothing defines
 
@@ -61,51 +66,37 @@ module _ (gone : ℕ → Bool) (keep : Instruction → Bool) (before after : Lis
   outside_is_thinned =
       walk keep F (λ is js. words_of (outside js) ≡ words_of (filter keep (outside is))) refl outside_dropped outside_kept before after facts thin.words
 
-  -- ---- pointers
+  -- ---- types, which are kept
 
-  pointers_in : (type : ℕ) (is js : List Instruction) → Type 0
-  pointers_in type is js = list_any (defines_pointer type) js ≡ list_any (defines_pointer type) is
+  module _ (keeps : KeepsTypes keep before) where
+    abbrev Lasts : Instruction → Type 0
+    Lasts i = F i × (is_one_of type_kinds (opcode i) ≡ true → keep i ≡ true)
 
-  pub same_pointer : (type : ℕ) → is_pointer after type ≡ is_pointer before type
-  same_pointer type =
-      walk keep F (λ is js. list_any (defines_pointer type) js ≡ list_any (defines_pointer type) is) refl
-      (λ i is js f e h.
-      h ∙ sym (ap (λ (b : Bool). (b && defines type i) || list_any (defines_pointer type) is)
-      (first_of (opcode i == op.TYPE_POINTER) (not_dropped gone keep before after thin facts (op.TYPE_POINTER ∷ []) refl i f e))))
-      (λ i j is js f e w h. ap₂ (λ (a b : Bool). a || b) (ap (λ ws. defines_pointer type (inst ws)) w) h) before after facts thin.words
-    where
-      first_of : (b : Bool) → (b || false) ≡ false → b ≡ false
-      first_of true h = absurd (cc h)
-      first_of false h = refl
+    lasting : AllByRecursion Lasts before
+    lasting =
+        all_both F (λ i. is_one_of type_kinds (opcode i) ≡ true → keep i ≡ true) before facts
+        (each_at (λ i. is_one_of type_kinds (opcode i) ≡ true → keep i ≡ true) before keeps)
 
-  -- ---- types
+    no_pointer : (i : Instruction) → Lasts i → keep i ≡ false → (opcode i == op.TYPE_POINTER) ≡ false
+    no_pointer i l e = by (opcode i == op.TYPE_POINTER) refl
+      where
+        by : (b : Bool) → (opcode i == op.TYPE_POINTER) ≡ b → b ≡ false
+        by true h = sym (l.1 (ap (is_one_of type_kinds) (eqb-true (opcode i) op.TYPE_POINTER h))) ∙ e
+        by false h = refl
 
-  types_last : (o : ℕ) → is_one_of type_kinds o ≡ true → is_one_of lasting_kinds o ≡ true
-  types_last o h = or_more (o == op.MEMBER_DECORATE) (one_in_front type_kinds (drop 10 lasting_kinds) o h)
-    where
-      or_more : (a : Bool) {b : Bool} → b ≡ true → (a || b) ≡ true
-      or_more true h = refl
-      or_more false h = h
+    pub same_pointer : (type : ℕ) → is_pointer after type ≡ is_pointer before type
+    same_pointer type =
+        walk keep Lasts (λ is js. list_any (defines_pointer type) js ≡ list_any (defines_pointer type) is) refl
+        (λ i is js l e h. h ∙ sym (ap (λ (b : Bool). (b && defines type i) || list_any (defines_pointer type) is) (no_pointer i l e)))
+        (λ i j is js l e w h. ap₂ (λ (a b : Bool). a || b) (ap (λ ws. defines_pointer type (inst ws)) w) h) before after lasting thin.words
 
-      or_both : (a b c : Bool) → (b ≡ true → c ≡ true) → (a || b) ≡ true → (a || c) ≡ true
-      or_both true b c more h = refl
-      or_both false b c more h = more h
-
-      one_in_front : (xs ys : List ℕ) (k : ℕ) → is_one_of xs k ≡ true → is_one_of (xs ++ ys) k ≡ true
-      one_in_front [] ys k h = absurd (true≢false (sym h))
-      one_in_front (x ∷ xs) ys k h = or_both (k == x) (is_one_of xs k) (is_one_of (xs ++ ys) k) (one_in_front xs ys k) h
-
-  -- what defines a type is kept
-  pub types_stay : (t : ℕ) → is_type before t ≡ true → Stays gone t
-  types_stay t h = by (definition before t) refl h
-    where
-      kept : (i : Instruction) → F i × (defines t i ≡ true) → is_one_of type_kinds (opcode i) ≡ true → (b : Bool) → keep i ≡ b → Stays gone t
-      kept i at type true e = (at.0.kept e).defined t at.1
-      kept i at type false e = absurd (true≢false (sym (types_last (opcode i) type) ∙ (at.0.dropped e).passing))
-
-      by : (o : Option Instruction) → definition before t ≡ o → is_one_of type_kinds (option_map_or opcode o 0) ≡ true → Stays gone t
-      by None e h = absurd (true≢false (sym h))
-      by (Some i) e h = kept i (found (defines t) F before i facts e) h (keep i) refl
+    -- what defines a type is kept
+    pub types_stay : (t : ℕ) → is_type before t ≡ true → Stays gone t
+    types_stay t h = by (definition before t) refl h
+      where
+        by : (o : Option Instruction) → definition before t ≡ o → is_one_of type_kinds (option_map_or opcode o 0) ≡ true → Stays gone t
+        by None e h = absurd (true≢false (sym h))
+        by (Some i) e h = let l = found (defines t) Lasts before i lasting e in (l.0.0.kept (l.0.1 h)).defined t l.1
 
   -- and what has gone is no longer defined
   pub none_defines : (t : ℕ) → gone t ≡ true → list_any (defines t) after ≡ false

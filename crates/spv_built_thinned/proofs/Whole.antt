@@ -14,6 +14,8 @@ use Rattle.spv_declarations.specs.Broken.{group_3}
 use Rattle.spv_declarations.specs.Laws.{IsUnbroken}
 use Rattle.spv_declarations.proofs.Parts.{defined-typed, first_typed, row_test, typed-words}
 use Rattle.spv_ids.specs.Ids.{defines, used_ids}
+use Rattle.spv_repeats.specs.Repeats.{is_workgroup_size}
+use Rattle.spv_entries.specs.Sizes.{is_mode}
 use Rattle.spv_typing.specs.Kinds.{is_one_of}
 use Rattle.spv_bodies.specs.Bodies.{Function}
 use Rattle.spv_bodies.specs.Listing.{Branching, branches, instruction, label_line, lines, listed}
@@ -44,16 +46,12 @@ use Rattle.spv_thinned_declarations.proofs.Whole.{thinned_is_declared}
 use Rattle.spv_thinned_entries.specs.Laws.{KeepsEntries}
 use Rattle.spv_thinned_entries.proofs.Entered.{thinned_is_entered}
 use Rattle.spv_built_thinned.specs.Laws.{ThinnedIsBuilt}
-use Rattle.spv_built_thinned.specs.Thinned.{AreThinned, IsThinnedFunction, KeepsShape, shaping_kinds}
-use Rattle.spv_built_thinned.proofs.Kept.{known_stays, no_type, outside_is_thinned, same_pointer, types_stay}
+use Rattle.spv_built_thinned.specs.Thinned.{AreThinned, IsThinnedFunction, KeepsShape, KeepsSizes, KeepsTypes, shaping_kinds}
+use Rattle.spv_built_thinned.proofs.Kept.{all_both, known_stays, no_type, outside_is_thinned, same_pointer, types_stay}
 use Rattle.spv_built_thinned.proofs.Laid.{thinned_is_laid_out}
 use Rattle.spv_built_thinned.proofs.Steps.{of_steps, shown_steps, steps_back}
 
 -- ---- lists
-
-all_both : {A : Type 0} (P Q : A → Type 0) (xs : List A) → AllByRecursion P xs → AllByRecursion Q xs → AllByRecursion (λ x. P x × Q x) xs
-all_both P Q [] h g = tt
-all_both P Q (x ∷ xs) h g = ((h.0, g.0), all_both P Q xs h.1 g.1)
 
 all_to : {A : Type 0} (P Q : A → Type 0) (xs : List A) → ((x : A) → P x → Q x) → AllByRecursion P xs → AllByRecursion Q xs
 all_to P Q [] to h = tt
@@ -108,7 +106,8 @@ itself k = grind (arith, nat_tests)
 -- ---- the module
 
 module _ (gone : ℕ → Bool) (keep : Instruction → Bool) (before after : List Instruction) (fs : List Function) (formed : AreInstructions before)
-    (b : AreBuilt before fs) (thin : IsThinned gone keep before after) (shape : KeepsShape keep before) where
+    (b : AreBuilt before fs) (thin : IsThinned gone keep before after) (shape : KeepsShape keep before)
+    (keeps_types : KeepsTypes keep before) (sizes : KeepsSizes keep before) where
   unbroken : IsUnbroken before
   unbroken = record { whole = formed; unrefused = b.declared }
 
@@ -122,7 +121,17 @@ module _ (gone : ℕ → Bool) (keep : Instruction → Bool) (before after : Lis
   shapes = each_at (λ i. is_one_of shaping_kinds (opcode i) ≡ true → keep i ≡ true) before shape
 
   entries : KeepsEntries keep before
-  entries k i at h = shape k i at (entries_are_shape (opcode i) h)
+  entries k i at h = by (is_workgroup_size i) refl
+    where
+      none : (a b c : Bool) → c ≡ false → (a || (b || c)) ≡ true → (a || b) ≡ true
+      none true b c e h = refl
+      none false true c e h = refl
+      none false false true e h = sym e
+      none false false false e h = h
+
+      by : (b : Bool) → is_workgroup_size i ≡ b → keep i ≡ true
+      by true e = sizes k i at e
+      by false e = shape k i at (entries_are_shape (opcode i) (none (is_entry_point i) (is_mode i) (is_workgroup_size i) e h))
 
   formed_after : AreInstructions after
   formed_after =
@@ -222,9 +231,9 @@ module _ (gone : ℕ → Bool) (keep : Instruction → Bool) (before after : Lis
         (built_where_dropped before after t.edit gone f
         (fits_where_dropped before after t.edit gone f unbroken alike
         (record {
-          stay = types_stay gone keep before after thin facts;
+          stay = types_stay gone keep before after thin facts keeps_types;
           none = no_type gone keep before after thin facts;
-          pointers = same_pointer gone keep before after thin facts;
+          pointers = same_pointer gone keep before after thin facts keeps_types;
         }) built.sound are_lines function_stays t.keeps drops) drops built)
 
   -- ---- all of them
@@ -252,7 +261,8 @@ module _ (gone : ℕ → Bool) (keep : Instruction → Bool) (before after : Lis
   }
 
 pub thinned_is_built : ThinnedIsBuilt
-thinned_is_built gone keep before after fs gs formed b thin shape lines t =
-    module_stays before after fs gs formed (formed_after gone keep before after fs formed b thin shape) b
-    (are_edited gone keep before after fs formed b thin shape fs gs t) (round gone keep before after fs formed b thin shape gs lines)
-    (all_again gone keep before after fs formed b thin shape fs gs b.functions (listed_lines gone keep before after fs formed b thin shape) t)
+thinned_is_built gone keep before after fs gs formed b thin shape types sizes lines t =
+    module_stays before after fs gs formed (formed_after gone keep before after fs formed b thin shape types sizes) b
+    (are_edited gone keep before after fs formed b thin shape types sizes fs gs t) (round gone keep before after fs formed b thin shape types sizes gs lines)
+    (all_again gone keep before after fs formed b thin shape types sizes fs gs b.functions
+    (listed_lines gone keep before after fs formed b thin shape types sizes) t)

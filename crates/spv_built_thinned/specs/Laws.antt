@@ -13,13 +13,14 @@ use Rattle.spv_norm.specs.Norm.{outside}
 use Rattle.spv_spelling.specs.Whole.{AreInstructions}
 use Rattle.spv_thinned.specs.Thinned.{IsThinned}
 use Rattle.spv_built.specs.Built.{AreBuilt}
-use Rattle.spv_built_thinned.specs.Thinned.{AreThinned, IsNoOpening, KeepsShape}
+use Rattle.spv_built_thinned.specs.Thinned.{AreThinned, IsNoOpening, KeepsShape, KeepsSizes, KeepsTypes}
 
 -- of its functions without the steps that were dropped, if these are what stands behind the instructions outside functions
 abbrev pub ThinnedIsBuilt : Type 0
 ThinnedIsBuilt =
     (gone : ℕ → Bool) (keep : Instruction → Bool) (before after : List Instruction) (fs gs : List Function) → AreInstructions before → AreBuilt before fs
-    → IsThinned gone keep before after → KeepsShape keep before → words_of after ≡ words_of (outside after) ++ flat_map listed gs → AreThinned gone fs gs
+    → IsThinned gone keep before after → KeepsShape keep before → KeepsTypes keep before → KeepsSizes keep before
+    → words_of after ≡ words_of (outside after) ++ flat_map listed gs → AreThinned gone fs gs
     → AreBuilt after gs
 
 -- where no rule on layout is broken, no parameter stands behind such an instruction, as is asked of what is dropped

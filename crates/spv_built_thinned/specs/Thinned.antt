@@ -3,11 +3,13 @@ use Rattle.std.specs.Prelude.{◌≡◌, ◌==◌, ℕ, Bool, true, false, List,
 use Rattle.std.specs.List.{AllByRecursion}
 use Rattle.spv_opcodes.specs.declared.op.TheConstants as op
 use Rattle.spv_module.specs.Instruction.{Instruction, opcode}
+use Rattle.spv_repeats.specs.Repeats.{is_workgroup_size}
 use Rattle.spv_typing.specs.Kinds.{is_one_of}
 use Rattle.spv_bodies.specs.Bodies.{Function}
 use Rattle.spv_editing.specs.Editing.{Edit, KeepsSteps, edited_function}
 use Rattle.spv_editing.specs.Showing.{shown}
 use Rattle.spv_fine_edits.specs.Laws.{StaysOrGoes}
+use Rattle.spv_typed_edits.specs.Edits.{type_kinds}
 
 -- what a module has to have, what makes its functions and blocks, and the modes of its entry points
 abbrev pub shaping_kinds : List ℕ
@@ -18,6 +20,13 @@ shaping_kinds =
 -- it is kept
 abbrev pub KeepsShape : (keep : Instruction → Bool) → List Instruction → Type 0
 KeepsShape keep insts = (k : ℕ) (i : Instruction) → slice_get insts k ≡ Some i → is_one_of shaping_kinds (opcode i) ≡ true → keep i ≡ true
+
+-- types are kept, and so is what makes a constant the size of workgroups
+abbrev pub KeepsTypes : (keep : Instruction → Bool) → List Instruction → Type 0
+KeepsTypes keep insts = (k : ℕ) (i : Instruction) → slice_get insts k ≡ Some i → is_one_of type_kinds (opcode i) ≡ true → keep i ≡ true
+
+abbrev pub KeepsSizes : (keep : Instruction → Bool) → List Instruction → Type 0
+KeepsSizes keep insts = (k : ℕ) (i : Instruction) → slice_get insts k ≡ Some i → is_workgroup_size i ≡ true → keep i ≡ true
 
 -- the second function is the first one without some steps, whose results have gone; what is used stays
 pub record IsThinnedFunction (gone : ℕ → Bool) (f g : Function) : Type 0 where

@@ -8,6 +8,7 @@ use Rattle.spv_base.specs.declared.header.Header.{Header}
 use Rattle.spv_module.specs.Code.{Code, code_of, is_function, is_line, spelling}
 use Rattle.spv_module.specs.Instruction.{Instruction, IsInstruction, instruction_rules, opcode, roles}
 use Rattle.spv_ids.specs.Ids.{defines, definition, kind, used_ids}
+use Rattle.spv_repeats.specs.Repeats.{is_workgroup_size}
 use Rattle.spv_typing.specs.Kinds.{is_one_of}
 use Rattle.spv_bound.specs.Bound.{bound_of_ids}
 use Rattle.spv_declarations.specs.Laws.{IsUnbroken}
@@ -42,7 +43,7 @@ use Rattle.spv_norm_profile.proofs.Words.{all_counted, same_bound, same_spelling
 use Rattle.spv_control.specs.Control.{AreParsed}
 use Rattle.spv_profile.specs.Profile.{IsModule}
 use Rattle.spv_string_uses.proofs.Whole.{module_uses_no_strings}
-use Rattle.spv_thinned.specs.Thinned.{IsDropped, IsKept, IsThinned, lasting_kinds, local_kinds}
+use Rattle.spv_thinned.specs.Thinned.{IsDropped, IsKept, IsThinned, decorating_kinds, lasting_kinds}
 use Rattle.spv_thinned.proofs.Walk.{each_at}
 use Rattle.spv_thinned.proofs.Whole.{facts_of}
 use Rattle.spv_built.specs.Built.{AreBuilt, FunctionIsBuilt, IsBuilt}
@@ -54,6 +55,7 @@ use Rattle.spv_built_thinned.proofs.Kept.{outside_is_thinned}
 use Rattle.spv_built_thinned.proofs.Parameters.{no_parameters_behind}
 use Rattle.spv_built_thinned.proofs.Steps.{OfStep, shown_steps, steps_back}
 use Rattle.spv_built_thinned.proofs.Whole.{thinned_is_built}
+use Rattle.spv_typed_edits.specs.Edits.{type_kinds}
 use Rattle.spv_typed_edits.proofs.Zero.{undefined}
 use Rattle.spv_stripped.specs.Laws.{StrippedFormIsModule, StrippedIsModule}
 use Rattle.spv_stripped.specs.Strip.{stays, stripped, stripped_insts}
@@ -105,6 +107,17 @@ rules_of bound (i ∷ is) h = (h.0.rules, rules_of bound is h.1)
 
 shape_stays : (i : Instruction) → is_one_of shaping_kinds (opcode i) ≡ true → stays i ≡ true
 shape_stays i h = stays_where (is_one_of shaping_kinds) (refl, (refl, (refl, (refl, (refl, (refl, (refl, (refl, (refl, tt))))))))) i h
+
+type_stays : (i : Instruction) → is_one_of type_kinds (opcode i) ≡ true → stays i ≡ true
+type_stays i h = stays_where (is_one_of type_kinds) (refl, (refl, (refl, (refl, (refl, (refl, (refl, (refl, (refl, tt))))))))) i h
+
+size_stays : (i : Instruction) → is_workgroup_size i ≡ true → stays i ≡ true
+size_stays i h =
+    stays_where (λ o. o == op.DECORATE) (refl, (refl, (refl, (refl, (refl, (refl, (refl, (refl, (refl, tt))))))))) i (decorates (opcode i == op.DECORATE) _ h)
+  where
+    decorates : (a b : Bool) → (a && b) ≡ true → a ≡ true
+    decorates true b h = refl
+    decorates false b h = h
 
 -- ---- the module
 
@@ -159,14 +172,10 @@ module _ (code : Code) (bodies : List Body) (m : IsModule code) (parsed : ArePar
         let plain : is_line i ≡ false = ap (λ o. o == op.LINE || o == op.NO_LINE) string in
         ap (λ o. o == op.STRING) (own_kind k i at plain id d ∙ string);
     passing = fails_where_stripped (is_one_of lasting_kinds) (refl, (refl, (refl, (refl, (refl, (refl, (refl, (refl, (refl, tt))))))))) i h;
-    target = λ e. absurd (no_decoration e);
-    decoration = λ e. absurd (no_decoration e);
+    target = λ e.
+        absurd (true≢false (sym e
+        ∙ fails_where_stripped (is_one_of decorating_kinds) (refl, (refl, (refl, (refl, (refl, (refl, (refl, (refl, (refl, tt))))))))) i h));
   }
-    where
-      no_decoration : opcode i ≡ op.DECORATE → ⊥
-      no_decoration e =
-          true≢false (sym (ap (λ o. o == op.DECORATE) e)
-          ∙ fails_where_stripped (λ o. o == op.DECORATE) (refl, (refl, (refl, (refl, (refl, (refl, (refl, (refl, (refl, tt))))))))) i h)
 
   is_kept : (k : ℕ) (i : Instruction) → slice_get before k ≡ Some i → stays i ≡ true → IsKept gone i
   is_kept k i at h = record {
@@ -180,9 +189,6 @@ module _ (code : Code) (bodies : List Body) (m : IsModule code) (parsed : ArePar
     zero = ap (λ o. option_map_or opcode o 0 == op.STRING) (undefined before formed);
     dropped = is_dropped;
     kept = is_kept;
-    locals = λ k i at h local.
-        absurd (true≢false (sym local
-        ∙ fails_where_stripped (is_one_of local_kinds) (refl, (refl, (refl, (refl, (refl, (refl, (refl, (refl, (refl, tt))))))))) i h));
     parameters = λ k i at h plain.
         no_parameters_behind 0 before (b.laid_out 0) k i at plain (record {
           function = fails_where_stripped (λ o. o == op.FUNCTION) (refl, (refl, (refl, (refl, (refl, (refl, (refl, (refl, (refl, tt))))))))) i h;
@@ -258,7 +264,7 @@ module _ (code : Code) (bodies : List Body) (m : IsModule code) (parsed : ArePar
 
   placed : AreBuilt after fs
   placed =
-      thinned_is_built gone stays before after fs fs formed b thin (λ k i at h. shape_stays i h) after_lines
+      thinned_is_built gone stays before after fs fs formed b thin (λ k i at h. shape_stays i h) (λ k i at h. type_stays i h) (λ k i at h. size_stays i h) after_lines
       (all_functions fs b.functions listed_lines)
 
   are_before : Are code.header.bound before
