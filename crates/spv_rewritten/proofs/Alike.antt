@@ -47,7 +47,8 @@ pub record IsPair (b : List Instruction) (i j : Instruction) : Type 0 where
 not_line : (i : Instruction) → (opcode i == op.TYPE_ARRAY) ≡ true → is_line i ≡ false
 not_line i h = ap (λ (o : ℕ). o == op.LINE || o == op.NO_LINE) (eqb-true (opcode i) op.TYPE_ARRAY h)
 
-array_fits_by : (insts : List Instruction) (i : Instruction) → (opcode i == op.TYPE_ARRAY) ≡ true → type_fits insts i ≡ array_fits insts (slice_index i.words 2) (slice_index i.words 3)
+array_fits_by : (insts : List Instruction) (i : Instruction) → (opcode i == op.TYPE_ARRAY) ≡ true
+    → type_fits insts i ≡ array_fits insts (slice_index i.words 2) (slice_index i.words 3)
 unfolding type_fits
 array_fits_by insts i h = rw (eqb-true (opcode i) op.TYPE_ARRAY h) refl
 
@@ -56,10 +57,10 @@ length_constant insts h k i at is =
     let types : type_fits insts i ≡ true =
     (keeps insts (declared_before insts k) k i (not_line i is) (unbroken insts (suc k) h.unrefused k i (omega arith) at)).types in
     let fits : array_fits insts (slice_index i.words 2) (slice_index i.words 3) ≡ true = sym (array_fits_by insts i is) ∙ types in
-    let right =
-    and_right (is_closed insts (slice_index i.words 2)) (is_constant insts (slice_index i.words 3) && is_int insts (type_of insts (slice_index i.words 3))) fits in (
-      and_left (is_constant insts (slice_index i.words 3)) (is_int insts (type_of insts (slice_index i.words 3))) right,
-      and_right (is_constant insts (slice_index i.words 3)) (is_int insts (type_of insts (slice_index i.words 3))) right,
+    let l = slice_index i.words 3 in
+    let right = and_right (is_closed insts (slice_index i.words 2)) (is_constant insts l && is_int insts (type_of insts l)) fits in (
+      and_left (is_constant insts l) (is_int insts (type_of insts l)) right,
+      and_right (is_constant insts l) (is_int insts (type_of insts l)) right,
     )
 
 pub pairs_of : (before after : List Instruction) → IsUnbroken before → IsRewritten before after → EachAs (IsPair before) before after
@@ -94,7 +95,8 @@ int_firm : (o : ℕ) → (o == op.TYPE_INT) ≡ true → is_one_of firm_kinds o 
 int_firm o h = ap (is_one_of firm_kinds) (eqb-true o op.TYPE_INT h)
 
 -- what gives a result and is rewritten has a type
-typed_by : (i : Instruction) → IsInstruction i.words (roles i) → is_one_of settled_kinds (opcode i) ≡ false → (id : ℕ) → defines id i ≡ true → given_type i ≡ None → ⊥
+typed_by : (i : Instruction) → IsInstruction i.words (roles i) → is_one_of settled_kinds (opcode i) ≡ false → (id : ℕ) → defines id i ≡ true
+    → given_type i ≡ None → ⊥
 typed_by i whole s id d none =
     true≢false
     (sym (type_told i.words (roles i) whole ∙ typed_result (opcode i) s (sym (result_told i.words (roles i) whole) ∙ has (word_with is_defined_id i) d))
@@ -141,7 +143,8 @@ module _ (before after : List Instruction) (h : IsUnbroken before) (w : IsRewrit
   next_form : (table : FormTable) (i j : Instruction) → IsPair before i j
       → with_form table (slice_index j.words 1) (form_of after table j) ≡ with_form table (slice_index i.words 1) (form_of before table i)
   next_form table i j p = elim p.rewritten [
-    | inl e ↦ ap (λ ws. with_form table (slice_index ws 1) (form_of after table (inst ws))) e ∙ ap (with_form table (slice_index i.words 1)) (same_form table i p.array)
+    | inl e ↦ ap (λ ws. with_form table (slice_index ws 1) (form_of after table (inst ws))) e
+        ∙ ap (with_form table (slice_index i.words 1)) (same_form table i p.array)
     | inr c ↦ ap (with_form table (slice_index j.words 1)) (no_form after table j (ap (is_one_of settled_kinds) c.kind ∙ c.passing))
         ∙ sym (ap (with_form table (slice_index i.words 1)) (no_form before table i c.passing))
   ]
@@ -153,7 +156,8 @@ module _ (before after : List Instruction) (h : IsUnbroken before) (w : IsRewrit
   unfolding forms
   same_forms =
       walk (IsPair before) SameForms (λ table. refl)
-      (λ i j is js p more table. more (with_form table (slice_index j.words 1) (form_of after table j)) ∙ ap (λ t. forms_behind before t is) (next_form table i j p))
+      (λ i j is js p more table. more (with_form table (slice_index j.words 1) (form_of after table j))
+      ∙ ap (λ t. forms_behind before t is) (next_form table i j p))
       before after pairs []
 
   -- ---- what has no type

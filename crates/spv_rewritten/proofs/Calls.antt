@@ -65,7 +65,8 @@ module _ (before after : List Instruction) (w : IsRewritten before after) where
       at_call true e = ap (called true) (e refl)
       at_call false e = refl
 
-      step : IsRewrittenAs before i j → called (opcode j == op.FUNCTION_CALL) (slice_index j.words 3) ≡ called (opcode i == op.FUNCTION_CALL) (slice_index i.words 3)
+      step : IsRewrittenAs before i j
+          → called (opcode j == op.FUNCTION_CALL) (slice_index j.words 3) ≡ called (opcode i == op.FUNCTION_CALL) (slice_index i.words 3)
       step (inl e) = ap (λ ws. called (opcode (inst ws) == op.FUNCTION_CALL) (slice_index ws 3)) e
       step (inr c) =
           ap (λ (o : ℕ). called (o == op.FUNCTION_CALL) (slice_index j.words 3)) c.kind

@@ -29,7 +29,8 @@ not_settled x o s h = by (o == x) refl
     by false e = refl
 
 -- and is none of them
-pub none_settled : (xs : List ℕ) (o : ℕ) → ((n : ℕ) → is_one_of xs n ≡ true → is_one_of settled_kinds n ≡ true) → is_one_of settled_kinds o ≡ false → is_one_of xs o ≡ false
+pub none_settled : (xs : List ℕ) (o : ℕ) → ((n : ℕ) → is_one_of xs n ≡ true → is_one_of settled_kinds n ≡ true) → is_one_of settled_kinds o ≡ false
+    → is_one_of xs o ≡ false
 none_settled xs o s h = by (is_one_of xs o) refl
   where
     by : (b : Bool) → is_one_of xs o ≡ b → b ≡ false

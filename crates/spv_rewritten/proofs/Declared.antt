@@ -26,6 +26,7 @@ use Rattle.spv_declarations.proofs.Modules.{unbroken}
 use Rattle.spv_alike_uses.specs.Laws.{UsesWhatStays}
 use Rattle.spv_alike_uses.proofs.Lookups.{Case, and_true, each}
 use Rattle.spv_thinned.specs.Thinned.{IsKept}
+use Rattle.spv_thinned.proofs.Declared.{Agree}
 use Rattle.spv_thinned.proofs.Walk.{inst}
 use Rattle.spv_thinned_declarations.proofs.Constants.{same_constant_fits}
 use Rattle.spv_thinned_declarations.proofs.Decorations.{same_decoration_fits, same_global_fits}
@@ -190,7 +191,7 @@ module _ (before after : List Instruction) (h : IsUnbroken before) (w : IsRewrit
             ap₂ (λ is ws. occurs is (inst ws)) front_after same ∙ same_occurs before pre qs front i ∙ sym (ap (λ is. occurs is i) front_before)
             ∙ keeps.kept.new_type;
         constants =
-            ap (λ ws. d.begun || constant_fits after d (inst ws)) same ∙ ap (λ b. d.begun || b) (same_constant_fits c i uses d) ∙ keeps.kept.constants;
+            ap (λ ws. d.begun || constant_fits after d (inst ws)) same ∙ ap (λ b. d.begun || b) (same_constant_fits c i uses d d agree) ∙ keeps.kept.constants;
         operations = spec_op_words after i j same ∙ operations_stay c i whole kept keeps.kept.operations;
         decorations = decoration_words after i j same ∙ same_decoration_fits c i whole kept ∙ keeps.kept.decorations;
         layouts = ap (λ ws. layout_fits d (inst ws)) same ∙ keeps.kept.layouts;

@@ -50,11 +50,13 @@ module _ (b : List Instruction) (i j : Instruction) (r : IsRewrittenAs b i j) wh
 
   same_literal : literal_function j ≡ literal_function i
   same_literal =
-      by_opcode op.EXECUTION_MODE refl (λ t ws. cond (t && slice_index ws 2 == execution_mode.LOCAL_SIZE) (Some (slice_index ws 1)) None) None (λ ws. refl) b i j r
+      by_opcode op.EXECUTION_MODE refl (λ t ws. cond (t && slice_index ws 2 == execution_mode.LOCAL_SIZE) (Some (slice_index ws 1)) None) None
+      (λ ws. refl) b i j r
 
   same_by_ids : id_function j ≡ id_function i
   same_by_ids =
-      by_opcode op.EXECUTION_MODE_ID refl (λ t ws. cond (t && slice_index ws 2 == execution_mode.LOCAL_SIZE_ID) (Some (slice_index ws 1)) None) None (λ ws. refl) b i j r
+      by_opcode op.EXECUTION_MODE_ID refl (λ t ws. cond (t && slice_index ws 2 == execution_mode.LOCAL_SIZE_ID) (Some (slice_index ws 1)) None) None
+      (λ ws. refl) b i j r
 
   same_called : called_function j ≡ called_function i
   same_called = by r
@@ -105,16 +107,18 @@ module _ (before after : List Instruction) (h : IsUnbroken before) (w : IsRewrit
   same_slot i j r =
       by_opcode op.VARIABLE refl
       (λ t ws. cond t
-      (slot_in (decoration_of after (slice_index ws 2) decoration.DESCRIPTOR_SET) (decoration_of after (slice_index ws 2) decoration.BINDING) (slice_index ws 3))
+      (slot_in (decoration_of after (slice_index ws 2) decoration.DESCRIPTOR_SET) (decoration_of after (slice_index ws 2) decoration.BINDING)
+      (slice_index ws 3))
       None) None (λ ws. refl) before i j r
       ∙ (λ k. cond (opcode i == op.VARIABLE)
-      (slot_in (same_decoration (slice_index i.words 2) decoration.DESCRIPTOR_SET k) (same_decoration (slice_index i.words 2) decoration.BINDING k) (slice_index i.words 3))
+      (slot_in (same_decoration (slice_index i.words 2) decoration.DESCRIPTOR_SET k) (same_decoration (slice_index i.words 2) decoration.BINDING k)
+      (slice_index i.words 3))
       None)
 
   same_buffer : (i j : Instruction) → IsRewrittenAs before i j → is_buffer j ≡ is_buffer i
   same_buffer =
-      by_opcode op.VARIABLE refl (λ t ws. t && (slice_index ws 3 == storage_class.UNIFORM || slice_index ws 3 == storage_class.STORAGE_BUFFER)) false (λ ws. refl)
-      before
+      by_opcode op.VARIABLE refl (λ t ws. t && (slice_index ws 3 == storage_class.UNIFORM || slice_index ws 3 == storage_class.STORAGE_BUFFER)) false
+      (λ ws. refl) before
 
   same_slot_fits : (k : ℕ) (o : Option Slot) → slot_fits after (take k after) o ≡ slot_fits before (take k before) o
   same_slot_fits k None = refl
@@ -146,7 +150,8 @@ module _ (before after : List Instruction) (h : IsUnbroken before) (w : IsRewrit
       (ap (λ b. b && list_any (has_name (entry_name j)) (take k after)) (same_entry_point before i j r)
       ∙ and_true (is_entry_point i) _ _
       (λ e. ap (λ n. list_any (has_name n) (take k after)) (entry_name_same before i j r e)
-      ∙ same_any (IsRewrittenAs before) (has_name (entry_name i)) (has_name (entry_name i)) (same_name (entry_name i)) (take k before) (take k after) (fronts k)))
+      ∙ same_any (IsRewrittenAs before) (has_name (entry_name i)) (has_name (entry_name i)) (same_name (entry_name i)) (take k before) (take k after)
+      (fronts k)))
 
   -- ---- 605
 
@@ -209,9 +214,11 @@ module _ (before after : List Instruction) (h : IsUnbroken before) (w : IsRewrit
       named = some_same entry_function entry_function (same_entry_function before)
 
       step : IsRewrittenAs before i j
-          → (not (is_mode j) || some_names entry_function after (slice_index j.words 1)) ≡ (not (is_mode i) || some_names entry_function before (slice_index i.words 1))
+          → (not (is_mode j) || some_names entry_function after (slice_index j.words 1))
+          ≡ (not (is_mode i) || some_names entry_function before (slice_index i.words 1))
       step (inl e) =
-          ap (λ ws. not (is_mode (inst ws)) || some_names entry_function after (slice_index ws 1)) e ∙ ap (λ b. not (is_mode i) || b) (named (slice_index i.words 1))
+          ap (λ ws. not (is_mode (inst ws)) || some_names entry_function after (slice_index ws 1)) e
+          ∙ ap (λ b. not (is_mode i) || b) (named (slice_index i.words 1))
       step (inr c) =
           ap (λ b. not b || some_names entry_function after (slice_index j.words 1)) (no_mode j (ap (is_one_of settled_kinds) c.kind ∙ c.passing))
           ∙ sym (ap (λ b. not b || some_names entry_function before (slice_index i.words 1)) (no_mode i c.passing))

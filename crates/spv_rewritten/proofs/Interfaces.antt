@@ -103,7 +103,8 @@ module _ (before after : List Instruction) (w : IsRewritten before after) where
   function_same begun [] (j ∷ js) s h = absurd s
   function_same begun (i ∷ is) [] s h = absurd s
   function_same begun (i ∷ is) (j ∷ js) s h =
-      subst (λ (b : Bool). EachAs Same (function_in (i ∷ is)) (cond b (j ∷ up_to_function js) [])) (sym (same_function before i j h.0)) (by (is_function i) refl)
+      subst (λ (b : Bool). EachAs Same (function_in (i ∷ is)) (cond b (j ∷ up_to_function js) [])) (sym (same_function before i j h.0))
+      (by (is_function i) refl)
     where
       by : (b : Bool) → is_function i ≡ b → EachAs Same (cond b (i ∷ up_to_function is) []) (cond b (j ∷ up_to_function js) [])
       by true e =

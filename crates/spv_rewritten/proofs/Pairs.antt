@@ -15,7 +15,8 @@ module _ (R : Instruction → Instruction → Type 0) where
     walk (i ∷ is) [] h = absurd h
     walk (i ∷ is) (j ∷ js) h = more i j is js h.0 (walk is js h.1)
 
-  pub each_also : (S : Instruction → Instruction → Type 0) → ((i j : Instruction) → R i j → S i j) → (is js : List Instruction) → EachAs R is js → EachAs S is js
+  pub each_also : (S : Instruction → Instruction → Type 0) → ((i j : Instruction) → R i j → S i j) → (is js : List Instruction) → EachAs R is js
+      → EachAs S is js
   each_also S f = walk (EachAs S) tt (λ i j is js r h. (f i j r, h))
 
   -- with what is known of each of the first ones

@@ -53,7 +53,8 @@ no_declaration o h = by (row_of o) (all_pass o)
 
     by : (row : Option Shape) → passes o row ≡ true → (row_section row == section.DECLARATIONS) ≡ false
     by None g = refl
-    by (Some s) g = first (is_one_of settled_kinds o) (s.section == section.DECLARATIONS) (not (list_any is_result s.kinds) || list_any is_result_type s.kinds) h g
+    by (Some s) g =
+        first (is_one_of settled_kinds o) (s.section == section.DECLARATIONS) (not (list_any is_result s.kinds) || list_any is_result_type s.kinds) h g
 
 pub typed_result : (o : ℕ) → is_one_of settled_kinds o ≡ false → has_result o ≡ true → has_result_type o ≡ true
 typed_result o h = by (row_of o) (all_pass o)

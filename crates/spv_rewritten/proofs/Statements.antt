@@ -12,12 +12,32 @@ use Rattle.spv_typing.specs.Kinds.{is_one_of}
 use Rattle.spv_declarations.specs.Declarations.{entry, entry_of, says}
 use Rattle.spv_declarations.proofs.Defining.{AllRows, row_holds, rows-append}
 use Rattle.spv_alike_uses.proofs.Lookups.{each}
-use Rattle.spv_thinned.proofs.Said.{is_quiet, loud}
+use Rattle.spv_alike_uses.specs.Alike.{firm_kinds}
 use Rattle.spv_rewritten.specs.Rewritten.{EachAs, IsRewrittenAs, settled_kinds}
 use Rattle.spv_rewritten.proofs.Common.{none_settled}
 use Rattle.spv_rewritten.proofs.Pairs.{walk}
 
 -- ---- quiet statements
+
+-- it decorates nothing and has no meaning
+abbrev is_quiet : Statement → Bool
+is_quiet (states.Decorate target what literals) = false
+is_quiet (states.MemberDecorate target member what literals) = false
+is_quiet (states.TypeBool r) = false
+is_quiet (states.TypeInt r width signedness) = false
+is_quiet (states.TypeVector r component count) = false
+is_quiet (states.TypeArray r element length) = false
+is_quiet (states.TypeRuntimeArray r element) = false
+is_quiet (states.TypeStruct r members) = false
+is_quiet (states.TypePointer r class target) = false
+is_quiet (states.Constant t r words) = false
+is_quiet (states.ConstantComposite t r parts) = false
+is_quiet (states.ConstantNull t r) = false
+is_quiet (states.Undef t r) = false
+is_quiet (states.SpecConstant t r words) = false
+is_quiet (states.SpecConstantOp computation t r operands) = false
+is_quiet (states.Variable t r class initialiser) = false
+is_quiet other = true
 
 quiet_decorated : (st : Statement) (rest : List Statement) (id d : ℕ) → is_quiet st ≡ true → decorated (st ∷ rest) id d ≡ decorated rest id d
 quiet_decorated (states.Decorate target what literals) rest id d h = absurd (cc h)
@@ -45,6 +65,10 @@ quiet_defined all table (states.Variable t r class initialiser) h = absurd (cc h
 quiet_defined all table other h = refl
 
 -- ---- rows
+
+-- the opcodes of all others
+abbrev loud : List ℕ
+loud = op.DECORATE ∷ op.MEMBER_DECORATE ∷ firm_kinds
 
 abbrev IsQuiet : ℕ → (List ℕ → Statement) → Type 0
 IsQuiet o row = is_one_of loud o ≡ false → (ws : List ℕ) → is_quiet (row ws) ≡ true
@@ -93,7 +117,8 @@ all_quiet o ws h = row_holds IsQuiet o rows (λ h ws. refl) rows_quiet h ws
 
 -- ---- one statement in front of the same
 
-front_decorated : (ws : List ℕ) (xs ys : List Statement) (id k : ℕ) → decorated xs id k ≡ decorated ys id k → decorated (said ws xs) id k ≡ decorated (said ws ys) id k
+front_decorated : (ws : List ℕ) (xs ys : List Statement) (id k : ℕ) → decorated xs id k ≡ decorated ys id k
+    → decorated (said ws xs) id k ≡ decorated (said ws ys) id k
 front_decorated ws xs ys id k h = by (is_silent_opcode (opcode_of (slice_index ws 0))) (st_of (opcode_of (slice_index ws 0)) (drop 1 ws))
   where
     by : (b : Bool) (st : Statement) → decorated (cond b xs (st ∷ xs)) id k ≡ decorated (cond b ys (st ∷ ys)) id k
@@ -120,7 +145,8 @@ said_more i is = refl
 settled_loud : (o : ℕ) → is_one_of settled_kinds o ≡ false → is_one_of loud o ≡ false
 settled_loud o h = none_settled loud o (λ n. each (is_one_of settled_kinds) loud refl n) h
 
-rewritten_decorated : (i : Instruction) (rest : List Statement) (id k : ℕ) → is_one_of settled_kinds (opcode i) ≡ false → decorated (said i.words rest) id k ≡ decorated rest id k
+rewritten_decorated : (i : Instruction) (rest : List Statement) (id k : ℕ) → is_one_of settled_kinds (opcode i) ≡ false
+    → decorated (said i.words rest) id k ≡ decorated rest id k
 rewritten_decorated i rest id k h = by (is_silent_opcode (opcode i))
   where
     by : (b : Bool) → decorated (cond b rest (st_of (opcode i) (drop 1 i.words) ∷ rest)) id k ≡ decorated rest id k

@@ -118,7 +118,8 @@ module _ (before after : List Instruction) (w : IsRewritten before after) where
 
   -- ---- so the tables are the same
 
-  pub same_declared : (is js : List Instruction) → EachAs (IsRewrittenAs before) is js → (d : Declared) → declare_all (says after) d js ≡ declare_all (says before) d is
+  pub same_declared : (is js : List Instruction) → EachAs (IsRewrittenAs before) is js → (d : Declared)
+      → declare_all (says after) d js ≡ declare_all (says before) d is
   same_declared =
       walk (IsRewrittenAs before) (λ is js. (d : Declared) → declare_all (says after) d js ≡ declare_all (says before) d is) (λ d. refl)
       (λ i j is js r more d. more (declare (says after) d j) ∙ ap (λ e. declare_all (says before) e is) (same_declare d i j r))

@@ -6,8 +6,8 @@
 
 ghost use Rattle.spv_thinned.specs.Thinned.{ThinnedIsAlike};
 
-/// A module that breaks no rule on declarations and what is left of it, where what is dropped defines nothing that is
-/// firm, are alike but for what has gone.
+/// A module that breaks no rule on declarations and what is left of it, where what is dropped defines nothing that what
+/// is kept uses, are alike but for what has gone.
 pub fn thinned_law()
     ensures { ThinnedIsAlike }
 {}

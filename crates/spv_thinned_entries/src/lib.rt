@@ -1,5 +1,5 @@
 //! A module from which instructions are dropped breaks no rule on calls and entry points, if it broke none and its entry
-//! points and their modes are kept.
+//! points, their modes and the size of workgroups are kept.
 //!
 //! The definitions are in `specs/`; the function here has a law over them as its contract, and does nothing when it is
 //! called.

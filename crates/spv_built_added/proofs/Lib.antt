@@ -1,0 +1,4 @@
+pub mod Steps
+pub mod Wider
+pub mod Typed
+pub mod Whole
