@@ -176,6 +176,10 @@ module _ (before after : List Instruction) (h : IsUnbroken before) (w : IsRewrit
         ∙ same_second (word_with is_defined_id i)
         ∙ sym (ap (λ is. option_map_or (is_defined is) (word_with is_defined_id i) false) front_before) ∙ keeps.kept.once
 
+    -- the same is declared
+    agree : Agree (λ id. false) (declared_before before (length pre)) (declared_before before (length pre))
+    agree = record { begun = refl; meanings = λ id s. refl; specialised = λ id s. refl }
+
     keeps_same : j.words ≡ i.words → KeepsAll after (declared_before before (length pre)) (length qs) j
     keeps_same same = record {
       kept = record {
