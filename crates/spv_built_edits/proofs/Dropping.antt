@@ -36,7 +36,7 @@ or_more : (a b c : Bool) → (b ≡ true → c ≡ true) → (a || b) ≡ true �
 or_more true b c more h = refl
 or_more false b c more h = more h
 
-one_in_front : (xs ys : List ℕ) (k : ℕ) → is_one_of xs k ≡ true → is_one_of (xs ++ ys) k ≡ true
+pub one_in_front : (xs ys : List ℕ) (k : ℕ) → is_one_of xs k ≡ true → is_one_of (xs ++ ys) k ≡ true
 one_in_front [] ys k h = absurd (true≢false (sym h))
 one_in_front (x ∷ xs) ys k h = or_more (k == x) (is_one_of xs k) (is_one_of (xs ++ ys) k) (one_in_front xs ys k) h
 

@@ -4,3 +4,4 @@ pub mod Built
 pub mod Module
 pub mod LaidOut
 pub mod Dropping
+pub mod Values

@@ -16,7 +16,8 @@ use Rattle.spv_norm.specs.Norm.{outside}
 use Rattle.spv_norm_entries.specs.Laws.{AllEntered}
 use Rattle.spv_functions.specs.Functions.{is_pointer}
 use Rattle.spv_editing.specs.Editing.{Edit, KeepsSteps, edited_function}
-use Rattle.spv_editing.specs.Showing.{steps_of}
+use Rattle.spv_editing.specs.Showing.{steps_of, uses_of}
+use Rattle.spv_replaced_values.specs.Replaced.{ReplacesValues, stands_in}
 use Rattle.spv_typed_trees.specs.Typed.{as_instruction}
 use Rattle.spv_typed_edits.specs.Edits.{KeepsFitting, KeepsUses, SameRound, is_type}
 use Rattle.spv_built.specs.Built.{IsShort}
@@ -44,6 +45,18 @@ pub record TypesStay (gone : ℕ → Bool) (before after : List Instruction) : T
 -- the steps of a function are instructions of the profile
 abbrev pub AreLines : Function → Type 0
 AreLines f = AllByRecursion (λ words. IsInstruction words (roles (as_instruction words))) (steps_of f.body)
+
+-- one line is put for a step: an instruction of the profile, in which other values stand
+pub record PutsLine (insts : List Instruction) (e : Edit) (words : List ℕ) : Type 0 where
+  pub line : List ℕ
+  pub is : e.steps words ≡ line ∷ []
+  pub whole : IsInstruction line (roles (as_instruction line))
+  pub replaces : ReplacesValues insts words line
+
+-- so it is for each step of a function, and for each id that is used elsewhere one is put that may stand there
+pub record PutsValues (insts : List Instruction) (e : Edit) (f : Function) : Type 0 where
+  pub steps : AllByRecursion (PutsLine insts e) (steps_of f.body)
+  pub uses : AllByRecursion (λ id. stands_in insts id (e.uses id) ≡ true) (uses_of f.body)
 
 -- other ids are put for these alone
 abbrev pub MovesOnly : List ℕ → Edit → Type 0

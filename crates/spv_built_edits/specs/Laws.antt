@@ -1,5 +1,5 @@
 -- Functions that are built and edited: laws, as statements.
-use Rattle.std.specs.Prelude.{◌≡◌, ℕ, Bool, List, ◌++◌, length, slice_index, None}
+use Rattle.std.specs.Prelude.{◌≡◌, ℕ, Bool, false, List, ◌++◌, length, slice_index, None}
 use Rattle.std.specs.List.{AllByRecursion, flat_map}
 use Rattle.spv_module.specs.First.{first}
 use Rattle.spv_module.specs.Instruction.{Instruction}
@@ -13,13 +13,14 @@ use Rattle.spv_tree.specs.Tree.{words_of}
 use Rattle.spv_norm.specs.Norm.{outside}
 use Rattle.spv_spelling.specs.Whole.{AreInstructions}
 use Rattle.spv_respelling.specs.Normal.{IsNormal}
+use Rattle.spv_functions.specs.Functions.{is_pointer}
 use Rattle.spv_editing.specs.Editing.{Edit, KeepsSteps, edited_function}
 use Rattle.spv_fine.specs.Fine.{IsFine, With, defined_in}
 use Rattle.spv_fine.specs.Laws.{IsKnown, Told}
 use Rattle.spv_fine_edits.specs.Giving.{Offers}
 use Rattle.spv_fine_edits.specs.Laws.{DropsIn, PutsIn, Replacing}
 use Rattle.spv_built.specs.Built.{AreBuilt, FunctionIsBuilt, IsShort}
-use Rattle.spv_built_edits.specs.Edits.{AreEdited, AreLines, AreSoundFunctions, IsFitting, MovesOnly, PutsShort, StandsRound, TypesStay}
+use Rattle.spv_built_edits.specs.Edits.{AreEdited, AreLines, AreSoundFunctions, IsFitting, MovesOnly, PutsShort, PutsValues, StandsRound, TypesStay}
 
 -- a sound function in normal form stays so, whatever its instructions become
 abbrev pub NormalStays : Type 0
@@ -57,6 +58,12 @@ FitsWhereDropped =
     (before after : List Instruction) (e : Edit) (gone : ℕ → Bool) (f : Function) → IsUnbroken before → AreAlikeBut gone before after
     → TypesStay gone before after → IsSound f → AreLines f → Stays gone (slice_index f.function 2) → KeepsSteps e
     → DropsIn gone e (IsKnown before) (IsKnown after) f → IsFitting before after e f
+
+-- An edit that puts lines in which values stand for others of their types fits where the modules are alike, with nothing gone: such a line fits as the one did.
+abbrev pub FitsWhereValuesStand : Type 0
+FitsWhereValuesStand =
+    (before after : List Instruction) (e : Edit) (f : Function) → IsUnbroken before → AreAlikeBut (λ id. false) before after
+    → ((id : ℕ) → is_pointer after id ≡ is_pointer before id) → KeepsSteps e → PutsValues before e f → IsFitting before after e f
 
 -- ---- in a module
 
