@@ -20,6 +20,8 @@ type Members = IndexMap<(u32, u32, u32), u32, Seed>;
 #[derive(Debug, Drop)]
 pub struct Decorations<'a> {
     insts: &'a InstList,
+    /// The seed of the tables.
+    seed: Seed,
     targets: Targets,
     members: Members,
 }
@@ -94,6 +96,7 @@ impl<'a> Decorations<'a> {
         let seed = Seed::of(insts);
         Ok(Decorations {
             insts,
+            seed,
             targets: targets_of(alloc, seed, insts)?,
             members: members_of(alloc, seed, insts)?,
         })
@@ -104,6 +107,11 @@ impl<'a> Decorations<'a> {
         ensures { result.now ≡ self.now }
     {
         self.insts
+    }
+
+    /// The seed of the module's tables.
+    pub fn seed(&self) -> Seed {
+        self.seed
     }
 
     /// The first literal of a decoration of an id by OpDecorate, 0 where it has none; None where the id does not

@@ -18,7 +18,6 @@ use spv_module::layout::is_line;
 use spv_module::{Flat, View};
 use spv_opcodes::op;
 use spv_repeats::{repeated_decorations, repeated_types};
-use spv_seed::Seed;
 use spv_typing::Kinds;
 use std::alloc::Global;
 
@@ -69,7 +68,7 @@ fn meanings_of(
     let insts = flat.insts();
     let types = repeated_types(alloc, insts)?;
     let repeats = repeated_decorations(alloc, insts)?;
-    let mut meanings = IndexMap::with_hasher(alloc, Seed::of(insts));
+    let mut meanings = IndexMap::with_hasher(alloc, decorations.seed());
     let mut begun = false;
     'instructions: for k in 0..flat.count() {
         let inst = flat.at(k);
