@@ -5,3 +5,14 @@ pub mod Module
 pub mod LaidOut
 pub mod Dropping
 pub mod Values
+pub mod Kept
+pub mod KeptSteps
+pub mod KeptLines
+pub mod Parameters
+pub mod Thinned
+pub mod RewrittenLines
+pub mod Rewritten
+pub mod AddedSteps
+pub mod Wider
+pub mod Typed
+pub mod Added

@@ -1,2 +1,6 @@
 pub mod Edits
 pub mod Laws
+pub mod Thinned
+pub mod ThinnedLaws
+pub mod RewrittenLaws
+pub mod AddedLaws

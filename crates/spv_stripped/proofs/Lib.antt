@@ -2,3 +2,5 @@ pub mod Opcodes
 pub mod Uses
 pub mod Lines
 pub mod Whole
+pub mod StringLabels
+pub mod Strings

@@ -21,7 +21,7 @@ use Rattle.spv_norm.specs.Norm.{outside}
 use Rattle.spv_built.specs.Built.{AreBuilt, FunctionIsBuilt}
 use Rattle.spv_stripped.specs.Strip.{stays}
 use Rattle.spv_stripped.proofs.Opcodes.{stays_where, stripping}
-use Rattle.spv_built_thinned.proofs.Steps.{all_join}
+use Rattle.spv_built_edits.proofs.KeptSteps.{all_join}
 
 abbrev pub inst : List ℕ → Instruction
 inst ws = record { offset = 0; words = ws }

@@ -25,7 +25,7 @@ use Rattle.spv_trees.proofs.Members.{one_left, one_right}
 use Rattle.spv_structured.proofs.Lists.{all_at, filter_in}
 use Rattle.spv_typed_trees.specs.Typed.{ArmsTyped, Begins, Carries, Sends, Typed, as_instruction}
 use Rattle.spv_respelling.proofs.EachLine.{OfArms, OfSteps}
-use Rattle.spv_built_thinned.proofs.Steps.{all_join}
+use Rattle.spv_built_edits.proofs.KeptSteps.{all_join}
 
 -- ---- what the end of a function uses
 

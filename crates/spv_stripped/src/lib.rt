@@ -1,14 +1,11 @@
 //! A module without its debug instructions is a module again.
 //!
-//! The definitions are in `specs/`; the function here has laws over them as its contract, and does nothing when it is
+//! The definitions are in `specs/`; each function here has laws over them as its contract, and does nothing when it is
 //! called.
 #![tactic(auto)]
 
-ghost use Rattle.spv_stripped.specs.Laws.{StrippedFormIsModule, StrippedIsModule};
+mod strings;
+mod stripping;
 
-/// What is left of a module of the profile in normal form without its strings, sources, names and notes is such a module,
-/// under the bound that its ids ask for; also where its instructions are said to stand elsewhere.
-pub fn stripped_law()
-    ensures module { StrippedIsModule }
-    ensures form { StrippedFormIsModule }
-{}
+pub use strings::strings_law;
+pub use stripping::stripped_law;

@@ -1,4 +1,0 @@
-pub mod Steps
-pub mod Wider
-pub mod Typed
-pub mod Whole

@@ -1,9 +1,0 @@
-use Rattle.spv_built_rewritten.proofs.Laid as laid
-use Rattle.spv_built_rewritten.proofs.Whole as whole
-use Rattle.spv_built_rewritten.proofs.built_law.Goals as goal
-
-pub returns-clause-built : goal.returns-clause-built
-returns-clause-built c = whole.rewritten_is_built
-
-pub returns-clause-laid_out : goal.returns-clause-laid_out
-returns-clause-laid_out c = laid.rewritten_is_laid_out

@@ -1,9 +1,0 @@
-use Rattle.spv_built_thinned.proofs.Parameters as parameters
-use Rattle.spv_built_thinned.proofs.Whole as whole
-use Rattle.spv_built_thinned.proofs.thinned_law.Goals as goal
-
-pub returns-clause-built : goal.returns-clause-built
-returns-clause-built c = whole.thinned_is_built
-
-pub returns-clause-parameters : goal.returns-clause-parameters
-returns-clause-parameters c = parameters.no_parameters_behind

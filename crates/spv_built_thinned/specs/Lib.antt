@@ -1,2 +1,0 @@
-pub mod Thinned
-pub mod Laws
