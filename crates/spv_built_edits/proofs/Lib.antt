@@ -9,10 +9,10 @@ pub mod Kept
 pub mod KeptSteps
 pub mod KeptLines
 pub mod Parameters
-pub mod Thinned
+pub mod ThinnedWhole
 pub mod RewrittenLines
-pub mod Rewritten
+pub mod RewrittenWhole
 pub mod AddedSteps
 pub mod Wider
 pub mod Typed
-pub mod Added
+pub mod AddedWhole

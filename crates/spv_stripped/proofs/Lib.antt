@@ -3,4 +3,4 @@ pub mod Uses
 pub mod Lines
 pub mod Whole
 pub mod StringLabels
-pub mod Strings
+pub mod StringUses

@@ -42,7 +42,7 @@ use Rattle.spv_norm_entries.proofs.Places.{the_kind}
 use Rattle.spv_norm_profile.proofs.Words.{all_counted, same_bound, same_spelling}
 use Rattle.spv_control.specs.Control.{AreParsed}
 use Rattle.spv_profile.specs.Profile.{IsModule}
-use Rattle.spv_stripped.proofs.Strings.{module_uses_no_strings}
+use Rattle.spv_stripped.proofs.StringUses.{module_uses_no_strings}
 use Rattle.spv_thinned.specs.Thinned.{IsDropped, IsKept, IsThinned, decorating_kinds, lasting_kinds}
 use Rattle.spv_thinned.proofs.Walk.{each_at}
 use Rattle.spv_thinned.proofs.Whole.{facts_of}
@@ -54,7 +54,7 @@ use Rattle.spv_built_edits.specs.Thinned.{AreThinned, IsThinnedFunction, KeepsSh
 use Rattle.spv_built_edits.proofs.Kept.{outside_is_thinned}
 use Rattle.spv_built_edits.proofs.Parameters.{no_parameters_behind}
 use Rattle.spv_built_edits.proofs.KeptSteps.{OfStep, shown_steps, steps_back}
-use Rattle.spv_built_edits.proofs.Thinned.{thinned_is_built}
+use Rattle.spv_built_edits.proofs.ThinnedWhole.{thinned_is_built}
 use Rattle.spv_typed_edits.specs.Edits.{type_kinds}
 use Rattle.spv_typed_edits.proofs.Zero.{undefined}
 use Rattle.spv_stripped.specs.Laws.{StrippedFormIsModule, StrippedIsModule}

@@ -1,4 +1,4 @@
-use Rattle.spv_built_edits.proofs.Added as whole
+use Rattle.spv_built_edits.proofs.AddedWhole as whole
 use Rattle.spv_built_edits.proofs.added.added_law.Goals as goal
 
 pub returns : goal.returns

@@ -1,5 +1,5 @@
 use Rattle.spv_built_edits.proofs.RewrittenLines as laid
-use Rattle.spv_built_edits.proofs.Rewritten as whole
+use Rattle.spv_built_edits.proofs.RewrittenWhole as whole
 use Rattle.spv_built_edits.proofs.rewritten.rewritten_law.Goals as goal
 
 pub returns-clause-built : goal.returns-clause-built

@@ -1,5 +1,5 @@
 use Rattle.spv_built_edits.proofs.Parameters as parameters
-use Rattle.spv_built_edits.proofs.Thinned as whole
+use Rattle.spv_built_edits.proofs.ThinnedWhole as whole
 use Rattle.spv_built_edits.proofs.thinned.thinned_law.Goals as goal
 
 pub returns-clause-built : goal.returns-clause-built

@@ -1,4 +1,4 @@
-use Rattle.spv_stripped.proofs.Strings as whole
+use Rattle.spv_stripped.proofs.StringUses as whole
 use Rattle.spv_stripped.proofs.strings.strings_law.Goals as goal
 
 pub returns : goal.returns
