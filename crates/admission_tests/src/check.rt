@@ -1,16 +1,16 @@
-ghost use Rattle.std.specs.Prelude.{◌≡◌, ◌<◌, ℕ, true, None, count_by, IfOk, IfSome};
+ghost use Rattle.std.specs.Prelude.{◌≡◌, ◌<◌, count_by, IfOk, IfSome};
 ghost use Rattle.spv_module.specs.Code.{is_function};
-ghost use Rattle.spv_blocks.specs.Cutting.{blocks_of, function_insts};
-ghost use Rattle.spv_walk.specs.Rules.{Broken, IsFirst};
+ghost use Rattle.spv_functions.specs.Functions.{AreShapes, IsDeclared};
 ghost use Rattle.spv_parse.specs.Functions.{IsLaidOut};
-ghost use Rattle.spv_functions.specs.Functions.{IsDeclared, is_pointer};
 ghost use Rattle.spv_types.specs.Whole.{Rises};
 
 use spv_base::{Fault, NoMemory};
 use spv_check::{check, check_body};
+use spv_control::parse_all;
+use spv_flow::Shape;
 use spv_functions::Functions;
 use spv_module::{Flat, decode};
-use spv_types::tables;
+use spv_types::{Tables, tables};
 use std::alloc::Global;
 use std::test::Fail;
 
@@ -232,26 +232,31 @@ fn module(alloc: Global, functions: &[u32]) -> Result<Option<Flat>, NoMemory>
     }
 }
 
-/// Whether each function of a module is read as a tree, so that no rule on structured control flow is broken.
-fn are_trees(alloc: Global, flat: &Flat) -> Result<bool, NoMemory>
-    requires { IsDeclared flat.now.insts }
-    ensures { IfOk result (λ all. all ≡ true → (f : ℕ) → f < count_by is_function flat.now.insts → IsFirst (Broken (is_pointer flat.now.insts) (blocks_of (function_insts f flat.now.insts))) None) }
-{
-    let functions = Functions::of(alloc, flat)?;
-    'functions: for f in 0..flat.functions() {
-        let Ok(_body) = functions.parse(alloc, flat, f) else {
-            return Ok(false);
-        };
-    }
-    Ok(true)
-}
-
 fn told(answer: &Result<(), Fault>) -> Told {
     match answer {
         Ok(()) => None,
         Err(Fault::Refused(refusal)) => Some((refusal.rule, refusal.at)),
         Err(_) => Some((0, 0)),
     }
+}
+
+/// The first broken rule of a module, and the first one in its function numbered `f`.
+fn both_told<'a>(
+    alloc: Global,
+    tables: &'a Tables<'a>,
+    flat: &Flat,
+    shapes: &[Shape],
+    f: u32,
+) -> (Told, Told)
+    requires same { tables.now ≡ flat.now.insts }
+    requires rises { Rises flat.now.insts }
+    requires declared { IsDeclared flat.now.insts }
+    requires within { f < count_by is_function flat.now.insts }
+    requires shapes { AreShapes flat.now.insts shapes.now }
+{
+    let whole = check(alloc, tables, flat, shapes);
+    let one = check_body(alloc, tables, flat, f, &shapes[f as usize]);
+    (told(&whole), told(&one))
 }
 
 /// The first broken rule of a module with these functions, and the first one in its function numbered `f`. None where the
@@ -263,12 +268,14 @@ fn first_told(alloc: Global, functions: &[u32], f: u32) -> Result<Option<(Told, 
     let Ok(kept) = tables(alloc, &flat) else {
         return Ok(None);
     };
-    if f >= flat.functions() || !are_trees(alloc, &flat)? {
+    if f >= flat.functions() {
         return Ok(None);
     }
-    let whole = check(alloc, &kept, &flat);
-    let one = check_body(alloc, &kept, &flat, f);
-    Ok(Some((told(&whole), told(&one))))
+    let functions = Functions::of(alloc, &flat)?;
+    let Ok(read) = parse_all(alloc, &flat, &functions) else {
+        return Ok(None);
+    };
+    Ok(Some(both_told(alloc, &kept, &flat, &read.shapes, f)))
 }
 
 /// Whether of a case that is told which should be.

@@ -170,7 +170,7 @@ fn answer_for(alloc: Global, functions: &[&[u32]]) -> Result<Told, NoMemory> {
     };
     let functions = Functions::of(alloc, &flat)?;
     match parse_all(alloc, &flat, &functions) {
-        Ok(bodies) => Ok(Told::Read(bodies.as_slice().len())),
+        Ok(read) => Ok(Told::Read(read.bodies.as_slice().len())),
         Err(Fault::Refused(Refusal { rule, at })) => Ok(Told::Refused(rule, at)),
         Err(Fault::Nesting) => Ok(Told::Nesting),
         Err(Fault::NoMemory) => Err(NoMemory),

@@ -6,8 +6,7 @@ use spv_base::{Fault, MAGIC, NoMemory};
 use spv_blocks::{Function, Labels, starts};
 use spv_flow::has_own_labels;
 use spv_module::{Flat, decode};
-use spv_parse::parse_function;
-use spv_tree::Body;
+use spv_parse::{Parsed, parse_function};
 use std::alloc::Global;
 use std::collections::BTreeSet;
 use std::test::Fail;
@@ -161,13 +160,13 @@ fn first_function(alloc: Global, flat: &Flat) -> Result<Option<u32>, NoMemory>
 }
 
 /// What parsing answers; none where memory is wanting.
-fn answer(alloc: Global, parsed: Result<Body, Fault>) -> Result<Vec<u32>, NoMemory> {
+fn answer(alloc: Global, parsed: Result<Parsed, Fault>) -> Result<Vec<u32>, NoMemory> {
     let mut told = Vec::new(alloc);
     match parsed {
-        Ok(body) => {
+        Ok(parsed) => {
             told.push(0)?;
-            told.push(body.sequence.items.len().min(1000) as u32)?;
-            told.push(body.depth())?;
+            told.push(parsed.body.sequence.items.len().min(1000) as u32)?;
+            told.push(parsed.body.depth())?;
         }
         Err(Fault::Refused(refusal)) => told.push(u32::from(refusal.rule))?,
         Err(Fault::Nesting) => told.push(901)?,

@@ -26,10 +26,10 @@ fn admit_declared<'a>(alloc: Global, tables: &'a Tables<'a>, flat: &Flat) -> Res
 {
     flat.insts().each_is_instruction();
     let functions = Functions::of(alloc, flat)?;
-    let bodies = parse_all(alloc, flat, &functions)?;
-    check(alloc, tables, flat)?;
-    check_whole(alloc, tables, flat)?;
-    let norm = norm(alloc, flat, bodies.as_slice())?;
+    let read = parse_all(alloc, flat, &functions)?;
+    check(alloc, tables, flat, &read.shapes)?;
+    check_whole(alloc, tables, flat, &read.shapes)?;
+    let norm = norm(alloc, flat, read.bodies.as_slice())?;
     Ok(norm)
 }
 

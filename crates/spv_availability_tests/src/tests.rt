@@ -294,7 +294,7 @@ fn scopes_of(
     if labels.count() == 0 {
         return Ok(None);
     }
-    let Ok(_body) = parse_function(alloc, flat, &pointers, first) else {
+    let Ok(_parsed) = parse_function(alloc, flat, &pointers, first) else {
         return Ok(None);
     };
     match Flow::of(alloc, &pointers, function, labels)? {

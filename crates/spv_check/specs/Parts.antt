@@ -1,14 +1,11 @@
 -- The parts of the rules that are looked for apart, by the numbers of functions; private functions cite them.
 use Rattle.std.specs.Prelude.{◌≡◌, ℕ, ◌<◌, ◌≤◌, true, cond, ◌==◌, List, [], slice_get, Some}
-use Rattle.std.specs.BTreeSet.{BTreeSet, contains}
 use Rattle.std.specs.List.{Contains}
-use Rattle.std.specs.Ordering.{nat_cmp}
 use Rattle.spv_module.specs.Instruction.{Instruction}
 use Rattle.spv_blocks.specs.Cutting.{starts as starts_of}
 use Rattle.spv_body_rules.specs.Broken.{body_rules, is_of_functions}
 use Rattle.spv_availability.specs.Availability.{IsUnavailable}
 use Rattle.spv_availability.specs.Places.{function_of}
-use Rattle.spv_functions.specs.Functions.{is_pointer}
 
 -- ---- which functions
 
@@ -55,11 +52,10 @@ pub record Named (insts : List Instruction) (Among : ℕ → Type 0) (rule at : 
 
 -- ---- what is kept of a module
 
--- where its instructions stand and what its ids name, which types are pointers, and where each function begins
-pub record AreBodies (insts standing named : List Instruction) (types : BTreeSet ℕ) (numbers : List ℕ) : Type 0 where
+-- where its instructions stand and what its ids name, and where each function begins
+pub record AreBodies (insts standing named : List Instruction) (numbers : List ℕ) : Type 0 where
   pub places : standing ≡ insts
   pub definitions : named ≡ insts
-  pub pointers : (type : ℕ) → contains nat_cmp types type ≡ is_pointer insts type
   pub starts : numbers ≡ starts_of insts
 
 -- the function with this number, counted from 1, begins with the instruction numbered first

@@ -1,16 +1,14 @@
 use spv_availability::rule::NOT_AVAILABLE;
 use spv_availability::{Places, are_available};
 use spv_base::{NoMemory, Refusal};
-use spv_blocks::{Function, Labels, starts};
+use spv_blocks::{Labels, starts};
 use spv_faults::earlier;
-use spv_flow::Flow;
-use spv_functions::pointers;
+use spv_flow::Shape;
 use spv_ids::Definitions;
 use spv_module::layout::is_line;
 use spv_module::{Flat, View};
 use spv_scopes::Scopes;
 use std::alloc::Global;
-use std::collections::BTreeSet;
 use std::marker::Model;
 
 /// What availability asks of a whole module. It borrows the module.
@@ -19,8 +17,6 @@ pub(crate) struct Bodies<'a> {
     flat: &'a Flat,
     places: Places<'a>,
     definitions: Definitions<'a>,
-    /// The types that are pointers.
-    pointers: BTreeSet<u32>,
     /// The number of each OpFunction among the instructions.
     starts: Vec<u32>,
 }
@@ -34,22 +30,21 @@ impl<'a> Model for Bodies<'a> {
 
     ghost view = { λ bodies. bodies.flat.now.insts };
 
-    ghost invariant = { λ bodies. AreBodies bodies.flat.now.insts bodies.places bodies.definitions bodies.pointers bodies.starts.items };
+    ghost invariant = { λ bodies. AreBodies bodies.flat.now.insts bodies.places bodies.definitions bodies.starts.items };
 }
 
 impl<'a> Bodies<'a> {
-    ghost use Rattle.std.specs.Prelude.{◌≡◌, ◌==◌, ◌<◌, ◌+◌, ℕ, None, Some, count_by, length, slice_get, IfOk};
+    ghost use Rattle.std.specs.Prelude.{◌≡◌, ◌==◌, ◌<◌, ◌+◌, Some, count_by, length, slice_get, IfOk};
     ghost use Rattle.passing.specs.Chains.{Tells};
     ghost use Rattle.spv_module.specs.Code.{is_function};
     ghost use Rattle.spv_module.specs.View.{seen};
     ghost use Rattle.spv_types.specs.Whole.{Rises};
     ghost use Rattle.spv_blocks.specs.Cutting.{blocks_of, function_insts, starts as starts_in};
-    ghost use Rattle.spv_walk.specs.Numbering.{HasOwnLabels};
-    ghost use Rattle.spv_walk.specs.Rules.{Broken, IsFirst};
+    ghost use Rattle.spv_walk.specs.Rules.{IsFirst};
     ghost use Rattle.spv_scopes.specs.Scopes.{AreScopes};
     ghost use Rattle.spv_availability.specs.Availability.{code_of};
     ghost use Rattle.spv_availability.specs.Places.{function_of};
-    ghost use Rattle.spv_functions.specs.Functions.{IsDeclared, is_pointer};
+    ghost use Rattle.spv_functions.specs.Functions.{AreShapes, IsDeclared};
     ghost use Rattle.spv_check.specs.Parts.{BeginsAt, Every, Lacks, Missing, Only};
 
     /// What availability asks of a module. It takes time in proportion to the module, up to logarithms.
@@ -60,7 +55,6 @@ impl<'a> Bodies<'a> {
             flat,
             places: Places::of(alloc, flat)?,
             definitions: Definitions::of(alloc, flat)?,
-            pointers: pointers(alloc, flat)?,
             starts: starts(alloc, flat)?,
         })
     }
@@ -136,55 +130,45 @@ impl<'a> Bodies<'a> {
         self.starts[f as usize]
     }
 
-    /// The scopes of a function in which no rule on structured control flow is broken.
-    fn scopes(
+    /// The first instruction of the function numbered `f`, counted from 0, that uses what is not available there. The shape is
+    /// that of the function.
+    pub(crate) fn missing_in(
         &self,
         alloc: Global,
-        function: &Function,
-        labels: &Labels,
-    ) -> Result<Scopes, NoMemory>
-        requires some { 0 < length function.now }
-        requires same { labels.now ≡ function.now }
-        requires own { HasOwnLabels function.now }
-        requires clean { IsFirst (Broken (is_pointer self.now) function.now) None }
-        ensures { IfOk result (λ scopes. AreScopes labels.now scopes) }
-    {
-        let found = Flow::of(alloc, &self.pointers, function, labels)?;
-        match found {
-            Ok(flow) => Scopes::of(alloc, labels, flow.walked()),
-            Err(_) => unreachable!(),
-        }
-    }
-
-    /// The first instruction of the function numbered `f`, counted from 0, that uses what is not available there.
-    pub(crate) fn missing_in(&self, alloc: Global, f: u32) -> Result<Option<Refusal>, NoMemory>
+        f: u32,
+        shape: &Shape,
+    ) -> Result<Option<Refusal>, NoMemory>
         requires rises { Rises self.now }
         requires declared { IsDeclared self.now }
         requires within { f < count_by is_function self.now }
-        requires clean { IsFirst (Broken (is_pointer self.now) (blocks_of (function_insts f self.now))) None }
+        requires shape { shape.now ≡ blocks_of (function_insts f self.now) }
         ensures { IfOk result (λ found. IsFirst (Missing self.now (Only (f + 1))) found) }
     {
         let flat = self.flat();
         flat.insts().each_is_instruction();
         let first = self.start(f);
-        let function = Function::at(alloc, flat, first)?;
-        let labels = Labels::of(alloc, &function)?;
-        let scopes = self.scopes(alloc, &function, &labels)?;
+        let flow = shape.flow();
+        let labels = Labels::of(alloc, shape.function())?;
+        let scopes = Scopes::of(alloc, &labels, flow.walked())?;
         Ok(self.first_lacking(&scopes, &labels, f + 1, first))
     }
 
     /// The first instruction of the module that uses what is not available there. Each function has its own labels and
-    /// scopes, which are made once for all its instructions.
-    pub(crate) fn missing(&self, alloc: Global) -> Result<Option<Refusal>, NoMemory>
+    /// scopes, which are made once for all its instructions. The shapes are those of the functions.
+    pub(crate) fn missing(
+        &self,
+        alloc: Global,
+        shapes: &[Shape],
+    ) -> Result<Option<Refusal>, NoMemory>
         requires rises { Rises self.now }
         requires declared { IsDeclared self.now }
-        requires clean { (f : ℕ) → f < count_by is_function self.now → IsFirst (Broken (is_pointer self.now) (blocks_of (function_insts f self.now))) None }
+        requires shapes { AreShapes self.now shapes.now }
         ensures { IfOk result (λ found. IsFirst (Missing self.now Every) found) }
     {
         let flat = self.flat();
         let mut found = None;
         'functions: for f in 0..flat.functions() {
-            let missing = self.missing_in(alloc, f)?;
+            let missing = self.missing_in(alloc, f, &shapes[f as usize])?;
             found = earlier(found, missing);
         }
         Ok(found)

@@ -9,6 +9,7 @@ use Rattle.spv_base.specs.declared.fault.Fault.TheVariants as faults
 use Rattle.spv_base.specs.declared.fault.Refusal.{Refusal}
 use Rattle.spv_module.specs.Code.{is_function}
 use Rattle.spv_module.specs.Instruction.{Instruction}
+use Rattle.spv_blocks.specs.Blocks.{Code}
 use Rattle.spv_blocks.specs.Cutting.{blocks_of, function_insts}
 use Rattle.spv_walk.specs.Found.{earlier_of}
 use Rattle.spv_walk.specs.Rules.{Broken, IsFirst}
@@ -16,9 +17,9 @@ use Rattle.spv_walk.proofs.Least.{first_both, first_same}
 use Rattle.spv_faults.proofs.EarlierLemmas.{earlier_of-none}
 use Rattle.spv_tree.specs.declared.body.Body.{Body}
 use Rattle.spv_parse.specs.Functions.{IsTooDeep}
-use Rattle.spv_functions.specs.Functions.{Answers, IsTree, Refuses, is_pointer}
+use Rattle.spv_functions.specs.Functions.{Answers, AreShapesBelow, IsTree, Refuses, is_pointer}
 use Rattle.spv_control.specs.Control.{AreParsed, BrokenInSome, NestsTooDeep}
-use Rattle.spv_control.specs.Reading.{AreParsedBelow, BrokenBelow, IsReadBelow, NestsBelow}
+use Rattle.spv_control.specs.Reading.{AreParsedBelow, BrokenBelow, HasShapesBelow, IsReadBelow, NestsBelow}
 
 -- ---- one function more
 
@@ -53,8 +54,8 @@ module _ (insts : List Instruction) (n : ℕ) where
   nests_more h = record { function = h.function; is = omega arith; deep = h.deep }
 
 -- what holds of each element and of one more holds of each; induction on the elements
-each_pushed : (P : ℕ → Body → Type 0) (xs : List Body) (x : Body) → ((k : ℕ) (y : Body) → slice_get xs k ≡ Some y → P k y) → P (length xs) x
-    → (k : ℕ) (y : Body) → slice_get (xs ++ x ∷ []) k ≡ Some y → P k y
+each_pushed : {X : Type 0} (P : ℕ → X → Type 0) (xs : List X) (x : X) → ((k : ℕ) (y : X) → slice_get xs k ≡ Some y → P k y) → P (length xs) x
+    → (k : ℕ) (y : X) → slice_get (xs ++ x ∷ []) k ≡ Some y → P k y
 each_pushed P [] x each last zero y e = let same : x ≡ y = cc (e) in subst (P zero) same last
 each_pushed P [] x each last (suc k) y e = absurd (cc (e))
 each_pushed P (z ∷ zs) x each last zero y e = each zero y e
@@ -71,6 +72,11 @@ parsed_more insts n bodies after body h tree is = record {
       (each_pushed (IsTreeAt insts) bodies body h.each (subst (λ m. IsTreeAt insts m body) (sym h.count) tree));
 }
 
+-- a refusal that is joined to others leaves one
+some_earlier : (next : Refusal) (o : Option Refusal) → earlier_of o (Some next) ≡ None → ⊥
+some_earlier next None e = cc
+some_earlier next (Some r) e = cc
+
 module _ (insts : List Instruction) (n : ℕ) (refusal : Option Refusal) (nests : Bool) (bodies : List Body) (h : IsReadBelow insts n refusal nests bodies) where
   read_tree : (body : Body) (after : List Body) → IsTreeAt insts n body → after ≡ bodies ++ body ∷ [] → IsReadBelow insts (n + 1) refusal nests after
   read_tree body after tree pushed = record {
@@ -84,12 +90,8 @@ module _ (insts : List Instruction) (n : ℕ) (refusal : Option Refusal) (nests 
   read_refused next after broken joined = record {
     first = subst (IsFirst (BrokenBelow insts (n + 1))) (sym joined) (first_more insts n refusal (Some next) h.first broken);
     deep = λ e. nests_more insts n (h.deep e);
-    trees = λ e f. absurd (some_earlier refusal (sym joined ∙ e));
+    trees = λ e f. absurd (some_earlier next refusal (sym joined ∙ e));
   }
-    where
-      some_earlier : (o : Option Refusal) → earlier_of o (Some next) ≡ None → ⊥
-      some_earlier None e = cc
-      some_earlier (Some r) e = cc
 
   read_nested : IsTooDeep (is_pointer insts) (function_insts n insts) → IsReadBelow insts (n + 1) refusal true bodies
   read_nested too_deep = record {
@@ -111,6 +113,33 @@ module _ (insts : List Instruction) (n : ℕ) (refusal : Option Refusal) (nests 
       → IsReadBelow insts (n + 1) refusal true bodies
   add_nesting fault told is = read_nested (subst (Refuses (is_pointer insts) (function_insts n insts)) is told)
 
+-- ---- the blocks of functions
+
+-- those of the next function are added
+pub add_shape : (insts : List Instruction) (n : ℕ) (refusal : Option Refusal) (nests : Bool) (shapes after : List Code) (shape : Code)
+    → HasShapesBelow insts n refusal nests shapes → shape ≡ blocks_of (function_insts n insts) → after ≡ shapes ++ shape ∷ []
+    → HasShapesBelow insts (n + 1) refusal nests after
+add_shape insts n refusal nests shapes after shape h here is = λ e f.
+    let old = h e f in
+    let Here : ℕ → Code → Type 0 = λ k g. g ≡ blocks_of (function_insts k insts) in
+    record {
+      count = ap length is ∙ length-append shapes (shape ∷ []) ∙ ap (λ m. m + 1) old.count;
+      each = subst (λ gs. (k : ℕ) (g : Code) → slice_get gs k ≡ Some g → g ≡ blocks_of (function_insts k insts)) (sym is)
+          (each_pushed Here shapes shape old.each (subst (λ m. Here m shape) (sym old.count) here));
+    }
+
+-- nothing is said of them once one function is refused, or nests too deep
+pub no_shapes_refused : (insts : List Instruction) (n : ℕ) (before after : Option Refusal) (nests : Bool) (shapes : List Code) (next : Refusal)
+    → after ≡ earlier_of before (Some next) → HasShapesBelow insts n after nests shapes
+no_shapes_refused insts n before after nests shapes next joined = λ e f. absurd (some_earlier next before (sym joined ∙ e))
+
+pub no_shapes_nested : (insts : List Instruction) (n : ℕ) (refusal : Option Refusal) (shapes : List Code) → HasShapesBelow insts n refusal true shapes
+no_shapes_nested insts n refusal shapes = λ e f. absurd (cc (f))
+
+pub shapes_of_none : (insts : List Instruction) (refusal : Option Refusal) (nests : Bool) (shapes : List Code) → shapes ≡ []
+    → HasShapesBelow insts 0 refusal nests shapes
+shapes_of_none insts refusal nests shapes is = λ e f. subst (AreShapesBelow insts 0) (sym is) (record { count = refl; each = λ k g h. absurd (cc (h)) })
+
 -- ---- none, and all
 
 pub read_none : (insts : List Instruction) → IsReadBelow insts 0 None false []
@@ -126,6 +155,13 @@ pub read_to_end : (insts : List Instruction) (k end : ℕ) (refusal : Option Ref
 read_to_end insts k end refusal nests bodies h over within is =
     let same : k ≡ count_by is_function insts = omega arith in
     subst (λ n. IsReadBelow insts n refusal nests bodies) same h
+
+pub shapes_to_end : (insts : List Instruction) (k end : ℕ) (refusal : Option Refusal) (nests : Bool) (shapes : List Code)
+    → HasShapesBelow insts k refusal nests shapes → end ≤ k → k ≤ end → end ≡ count_by is_function insts
+    → HasShapesBelow insts (count_by is_function insts) refusal nests shapes
+shapes_to_end insts k end refusal nests shapes h over within is =
+    let same : k ≡ count_by is_function insts = omega arith in
+    subst (λ n. HasShapesBelow insts n refusal nests shapes) same h
 
 module _ (insts : List Instruction) (refusal : Option Refusal) (nests : Bool) (bodies : List Body)
     (h : IsReadBelow insts (count_by is_function insts) refusal nests bodies) where

@@ -10,6 +10,7 @@ use Rattle.spv_walk.specs.Rules.{Broken, IsFirst}
 use Rattle.spv_tree.specs.declared.body.Body.{Body}
 use Rattle.spv_parse.specs.Functions.{IsTooDeep}
 use Rattle.spv_functions.specs.Functions.{IsTree, is_pointer}
+use Rattle.spv_control.specs.declared.reading.Read.{Read}
 
 -- a rule is broken in one of the functions
 pub record BrokenInSome (insts : List Instruction) (rule at : ℕ) : Type 0 where
@@ -34,3 +35,8 @@ Reads insts (Ok bodies) = AreParsed insts bodies
 Reads insts (Err (faults.Refused refusal)) = IsFirst (BrokenInSome insts) (Some refusal)
 Reads insts (Err faults.Nesting) = IsFirst (BrokenInSome insts) None × NestsTooDeep insts
 Reads insts (Err faults.NoMemory) = Unit {0}
+
+-- the trees alone of what functions are read as
+abbrev pub trees_of : Result Read Fault → Result (List Body) Fault
+trees_of (Ok read) = Ok read.bodies
+trees_of (Err fault) = Err fault

@@ -3,4 +3,4 @@
 
 mod reading;
 
-pub use reading::parse_all;
+pub use reading::{Read, parse_all};

@@ -5,7 +5,9 @@ mod flows;
 mod known;
 mod looking;
 mod owning;
+mod shapes;
 
 pub use flows::{Flow, first_broken};
 pub use owning::has_own_labels;
+pub use shapes::Shape;
 pub use spv_base::{NoMemory, Refusal};

@@ -1,3 +1,4 @@
 pub mod PointerTypes
 pub mod Declared
 pub mod Answering
+pub mod Shapes

@@ -1,17 +1,19 @@
 -- The functions of a module that breaks no rule on layout and on declarations: their trees, and their normal forms.
-use Rattle.std.specs.Prelude.{◌≡◌, ℕ, ◌≤◌, Bool, ◌==◌, ◌&&◌, List, None, Some, Result, Ok, Err}
+use Rattle.std.specs.Prelude.{◌≡◌, ℕ, ◌≤◌, Bool, ◌==◌, ◌&&◌, List, length, slice_get, None, Some, Result, Ok, Err}
 use Rattle.std.specs.BTreeSet.{BTreeSet, contains}
-use Rattle.std.specs.List.{list_any}
+use Rattle.std.specs.List.{count_by, list_any}
 use Rattle.std.specs.Ordering.{nat_cmp}
 use Rattle.spv_base.specs.declared.fault.Fault.{Fault}
 use Rattle.spv_base.specs.declared.fault.Fault.TheVariants as faults
 use Rattle.spv_opcodes.specs.declared.op.TheConstants as op
+use Rattle.spv_module.specs.Code.{is_function}
 use Rattle.spv_module.specs.First.{first}
 use Rattle.spv_module.specs.Instruction.{Instruction, opcode}
 use Rattle.spv_module.specs.Layout.{group_2}
 use Rattle.spv_ids.specs.Ids.{defines}
 use Rattle.spv_declarations.specs.Broken.{group_3}
-use Rattle.spv_blocks.specs.Cutting.{blocks_of, starts as starts_of}
+use Rattle.spv_blocks.specs.Blocks.{Code}
+use Rattle.spv_blocks.specs.Cutting.{blocks_of, function_insts, starts as starts_of}
 use Rattle.spv_walk.specs.Rules.{Broken, IsFirst}
 use Rattle.spv_bodies.specs.Listing.{listed}
 use Rattle.spv_tree.specs.declared.body.Body.{Body}
@@ -74,3 +76,14 @@ Answers is_pointer insts (Err fault) = Refuses is_pointer insts fault
 abbrev pub Normalizes : (is_pointer : ℕ → Bool) → (insts : List Instruction) → Result (List Instruction) Fault → Type 0
 Normalizes is_pointer insts (Ok normal) = IsNormal is_pointer insts normal
 Normalizes is_pointer insts (Err fault) = Refuses is_pointer insts fault
+
+-- ---- the blocks of functions
+
+-- those of each of the first n functions, in order
+pub record AreShapesBelow (insts : List Instruction) (n : ℕ) (shapes : List Code) : Type 0 where
+  pub count : length shapes ≡ n
+  pub each : (k : ℕ) (f : Code) → slice_get shapes k ≡ Some f → f ≡ blocks_of (function_insts k insts)
+
+-- those of each function
+abbrev pub AreShapes : List Instruction → List Code → Type 0
+AreShapes insts shapes = AreShapesBelow insts (count_by is_function insts) shapes

@@ -6,7 +6,7 @@ use Rattle.std.proofs.lemmas.List.Sums.{count_by-le-length, sum_by-cons}
 use Rattle.spv_module.specs.First.{first, here, unless}
 use Rattle.spv_module.specs.Instruction.{Instruction}
 use Rattle.spv_blocks.specs.Blocks.{Block, Code, end_targets, has}
-use Rattle.spv_exits.specs.Exits.{AreNestedTogether, branching, crowded_among, crowded_at, crowded_in_all, exits_fit, functions_of, is_nested_return}
+use Rattle.spv_exits.specs.Exits.{AreNestedTogether, branching, crowded_among, crowded_in_all, exits_fit, functions_of, is_nested_return}
 use Rattle.spv_module_rules.specs.Kept.{AreUnbroken, IsFirstCrowded, blocks_together}
 use Rattle.spv_module_rules.proofs.Reached.{module-has_nested}
 

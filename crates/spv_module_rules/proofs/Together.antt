@@ -1,12 +1,10 @@
 -- Functions one by one: what is counted, and what is found first.
-use Rattle.std.proofs.Common.{◌≡◌, ℕ, ◌+◌, ◌<◌, ◌≤◌, List, [], ◌∷◌, ◌++◌, length, map, take, get_or, Option, Some, None, refl, sym, ap, subst, ◌∙◌}
-use Rattle.std.proofs.lemmas.List.{map_more, take_all}
+use Rattle.std.proofs.Common.{◌≡◌, ℕ, ◌+◌, ◌<◌, ◌≤◌, List, [], ◌∷◌, ◌++◌, length, take, get_or, Option, Some, None, refl, sym, ap, subst, ◌∙◌}
+use Rattle.std.proofs.lemmas.List.{take_all}
 use Rattle.std.proofs.lemmas.Option.{slice_get-get_or}
 use Rattle.spv_base.specs.declared.fault.Refusal.{Refusal}
 use Rattle.spv_module.specs.First.{first}
-use Rattle.spv_module.specs.Instruction.{Instruction}
 use Rattle.spv_blocks.specs.Blocks.{Code}
-use Rattle.spv_blocks.specs.Cutting.{blocks_of, function_at}
 use Rattle.spv_blocks.proofs.Slices.{take-at}
 use Rattle.spv_walk.specs.Found.{earlier_of}
 use Rattle.spv_faults.proofs.EarlierLemmas.{earlier-parts}
@@ -17,18 +15,6 @@ use Rattle.spv_module_rules.specs.Kept.{AreCounted}
 -- one element more, as a loop reads it
 pub take-read : {X : Type 0} (xs : List X) (k : ℕ) (x : X) → k < length xs → x ≡ get_or xs k x → take (k + 1) xs ≡ take k xs ++ x ∷ []
 take-read xs k x within is = take-at xs k x (slice_get-get_or xs k x within ∙ ap Some (sym is))
-
--- ---- functions
-
-pub functions-more : (insts : List Instruction) (starts : List ℕ) (k : ℕ) (f : Code) (before after : List Code) → k < length starts
-    → f ≡ blocks_of (function_at (get_or starts k 0) insts) → before ≡ map (λ first. blocks_of (function_at first insts)) (take k starts)
-    → after ≡ before ++ f ∷ []
-    → after ≡ map (λ first. blocks_of (function_at first insts)) (take (k + 1) starts)
-functions-more insts starts k f before after within is told more =
-    more
-    ∙ ap (λ front. front ++ f ∷ []) told
-    ∙ ap (λ g. map (λ first. blocks_of (function_at first insts)) (take k starts) ++ g ∷ []) is
-    ∙ sym (map_more (λ first. blocks_of (function_at first insts)) starts k 0 within)
 
 -- ---- nested returns
 

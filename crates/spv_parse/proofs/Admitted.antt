@@ -1,5 +1,5 @@
 -- A function in which no rule is broken, from what is told of its module and of its blocks.
-use Rattle.std.proofs.Common.{length, ◌≡◌, ◌⊎◌, inl, inr, ℕ, suc, zero, ◌<◌, ◌≤◌, Bool, true, false, cond, not, List, [], ◌∷◌, drop, filter, Option, None, Some, refl, sym, ap, subst, ◌∙◌}
+use Rattle.std.proofs.Common.{length, ◌≡◌, inl, inr, ℕ, suc, zero, ◌<◌, ◌≤◌, Bool, cond, not, List, [], ◌∷◌, drop, filter, Option, None, Some, refl, sym, ap, subst, ◌∙◌}
 use Rattle.std.specs.List.{slice_get}
 use Rattle.spv_module.specs.Code.{is_function, is_line}
 use Rattle.spv_module.specs.Instruction.{Instruction, IsInstruction, roles}

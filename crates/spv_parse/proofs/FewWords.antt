@@ -1,5 +1,5 @@
 -- Instructions with few words.
-use Rattle.std.proofs.Common.{◌≡◌, ◌⊎◌, inl, inr, ℕ, ◌+◌, ◌<◌, ◌≤◌, length, Option, Some, sym, ap, subst, ◌∙◌, arith}
+use Rattle.std.proofs.Common.{◌≡◌, ◌⊎◌, inl, inr, ℕ, ◌+◌, ◌<◌, ◌≤◌, length, Some, sym, ap, subst, ◌∙◌, arith}
 use Rattle.std.specs.Prelude.{List, slice_get}
 use Rattle.spv_module.specs.Instruction.{Instruction}
 

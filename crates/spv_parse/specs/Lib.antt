@@ -4,3 +4,4 @@ pub mod Ends
 pub mod Loops
 pub mod Arms
 pub mod Functions
+pub mod Parsed

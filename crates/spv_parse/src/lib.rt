@@ -12,4 +12,4 @@ mod state;
 mod ways;
 
 pub use building::build;
-pub use functions::parse_function;
+pub use functions::{Parsed, parse_function};

@@ -4,4 +4,4 @@ use Rattle.spv_availability_tests.proofs.tests.scopes_of.Goals as goal
 
 pub of-requires-in-Ok-2-clause-numbered : goal.of-requires-in-Ok-2-clause-numbered
 of-requires-in-Ok-2-clause-numbered c =
-    numbered_blocks _ (function_at c.args.first c.args.flat.now.insts) c.in-Ok._body c.args.function.now c.args.labels.now c.in-Ok.ensures c.requires.same c.requires.blocks
+    numbered_blocks _ (function_at c.args.first c.args.flat.now.insts) c.in-Ok._parsed.body c.args.function.now c.args.labels.now c.in-Ok.ensures.tree c.requires.same c.requires.blocks

@@ -3,4 +3,4 @@ use Rattle.spv_module_rules.specs.Kept.{AreCounted}
 use Rattle.spv_module_rules.proofs.exits.nested_together.Given as goal
 
 abbrev pub invariant-each : goal.invariant-each
-invariant-each l = AreCounted (take l.function-index l.functions) l.nested
+invariant-each l = AreCounted (take l.shape-index l.shapes) l.nested

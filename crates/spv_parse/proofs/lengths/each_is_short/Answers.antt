@@ -1,4 +1,4 @@
-use Rattle.std.proofs.Common.{◌≤◌, subst, sym, arith}
+use Rattle.std.proofs.Common.{◌≤◌, subst, arith}
 use Rattle.spv_module.specs.View.{seen}
 use Rattle.spv_parse.proofs.FewWords.{one_more_short}
 use Rattle.spv_parse.proofs.lengths.each_is_short.Goals as goal

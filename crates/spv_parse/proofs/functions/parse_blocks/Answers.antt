@@ -17,16 +17,16 @@ use Rattle.spv_flow.specs.Known.{AreToldLoops}
 use Rattle.spv_spelling.specs.Whole.{AreInstructions}
 use Rattle.spv_texts.proofs.Marks.{blocks_without_marks}
 use Rattle.spv_parse.proofs.Admitted.{IsTold, told_admitted, told_clean, told_nested}
-use Rattle.spv_parse.proofs.functions.parse_function.Goals as goal
+use Rattle.spv_parse.proofs.functions.parse_blocks.Goals as goal
 
-pub returns-then-depth-gt-DEPTH : goal.returns-then-depth-gt-DEPTH
-returns-then-depth-gt-DEPTH c =
-    let f = c.in_ok-function.function in
+pub returns-then-depth-gt-DEPTH-clause-tree : goal.returns-then-depth-gt-DEPTH-clause-tree
+returns-then-depth-gt-DEPTH-clause-tree c =
+    let f = c.args.function.now in
     let flow = c.in-Ok.flow in
     let is_pointer : ℕ → Bool = contains nat_cmp c.args.pointers.now in
     let insts = function_at c.args.first c.args.flat.now.insts in
     let told : IsTold is_pointer insts f (found flow.enterers) (context_of flow.walked) = record {
-      same = c.in_ok-function.ensures;
+      same = c.requires.blocks;
       unbroken = subst (λ (r : Result Flow Refusal). IfOk r (λ x. IsFirst (Broken is_pointer f) None)) c.in-Ok.is c.in_ok-refusal.ensures.clean;
       enterers = subst (λ (r : Result Flow Refusal). IfOk r (λ x. AreEnterers f (found x.enterers))) c.in-Ok.is c.in_ok-refusal.ensures.enterers;
       walk = subst (λ (r : Result Flow Refusal). IfOk r (λ x. IsWalk f (InPlaces (context_of x.walked)))) c.in-Ok.is c.in_ok-refusal.ensures.walk;
@@ -39,12 +39,12 @@ returns-then-depth-gt-DEPTH c =
 
 pub parse_unbroken-requires-clause-admitted : goal.parse_unbroken-requires-clause-admitted
 parse_unbroken-requires-clause-admitted c =
-    let f = c.in_ok-function.function in
+    let f = c.args.function.now in
     let flow = c.in-Ok.flow in
     let is_pointer : ℕ → Bool = contains nat_cmp c.args.pointers.now in
     let insts = function_at c.args.first c.args.flat.now.insts in
     let told : IsTold is_pointer insts f (found flow.enterers) (context_of flow.walked) = record {
-      same = c.in_ok-function.ensures;
+      same = c.requires.blocks;
       unbroken = subst (λ (r : Result Flow Refusal). IfOk r (λ x. IsFirst (Broken is_pointer f) None)) c.in-Ok.is c.in_ok-refusal.ensures.clean;
       enterers = subst (λ (r : Result Flow Refusal). IfOk r (λ x. AreEnterers f (found x.enterers))) c.in-Ok.is c.in_ok-refusal.ensures.enterers;
       walk = subst (λ (r : Result Flow Refusal). IfOk r (λ x. IsWalk f (InPlaces (context_of x.walked)))) c.in-Ok.is c.in_ok-refusal.ensures.walk;
@@ -56,16 +56,16 @@ parse_unbroken-requires-clause-admitted c =
 
 pub parse_unbroken-requires-clause-same : goal.parse_unbroken-requires-clause-same
 parse_unbroken-requires-clause-same c =
-    c.in_ok-labels.ensures ∙ c.in_ok-function.ensures ∙ sym (blocks_without_marks (function_at c.args.first c.args.flat.now.insts))
+    c.in_ok-labels.ensures ∙ c.requires.blocks ∙ sym (blocks_without_marks (function_at c.args.first c.args.flat.now.insts))
 
-pub returns : goal.returns
-returns c =
-    let f = c.in_ok-function.function in
+pub returns-clause-tree : goal.returns-clause-tree
+returns-clause-tree c =
+    let f = c.args.function.now in
     let flow = c.in-Ok.flow in
     let is_pointer : ℕ → Bool = contains nat_cmp c.args.pointers.now in
     let insts = function_at c.args.first c.args.flat.now.insts in
     let told : IsTold is_pointer insts f (found flow.enterers) (context_of flow.walked) = record {
-      same = c.in_ok-function.ensures;
+      same = c.requires.blocks;
       unbroken = subst (λ (r : Result Flow Refusal). IfOk r (λ x. IsFirst (Broken is_pointer f) None)) c.in-Ok.is c.in_ok-refusal.ensures.clean;
       enterers = subst (λ (r : Result Flow Refusal). IfOk r (λ x. AreEnterers f (found x.enterers))) c.in-Ok.is c.in_ok-refusal.ensures.enterers;
       walk = subst (λ (r : Result Flow Refusal). IfOk r (λ x. IsWalk f (InPlaces (context_of x.walked)))) c.in-Ok.is c.in_ok-refusal.ensures.walk;
@@ -74,4 +74,16 @@ returns c =
     let nested =
     told_nested is_pointer insts f (found flow.enterers) (context_of flow.walked) told c.depth.result
     (subst (λ (z : Code). IsDepth z (InPlaces (context_of flow.walked)) c.depth.result) c.in_ok-labels.ensures c.depth.ensures) in
-    record { depth = c.depth.result; nested = nested; within = c.if-depth-gt-DEPTH.false; clean = told_clean is_pointer insts f (found flow.enterers) (context_of flow.walked) told; spelled = c.in_ok-parse_unbroken-in-Ok.ensures }
+    record { depth = c.depth.result; nested = nested; within = c.if-depth-gt-DEPTH.false; clean = told_clean is_pointer insts f (found flow.enterers) (context_of flow.walked) told; spelled = c.in_ok-body-in-Ok.ensures }
+
+pub returns-clause-shaped : goal.returns-clause-shaped
+returns-clause-shaped c =
+    let f = c.args.function.now in
+    let flow = c.in-Ok.flow in
+    record {
+      is_pointer = contains nat_cmp c.args.pointers.now;
+      unbroken = subst (λ (r : Result Flow Refusal). IfOk r (λ x. IsFirst (Broken (contains nat_cmp c.args.pointers.now) f) None)) c.in-Ok.is c.in_ok-refusal.ensures.clean;
+      enterers = subst (λ (r : Result Flow Refusal). IfOk r (λ x. AreEnterers f (found x.enterers))) c.in-Ok.is c.in_ok-refusal.ensures.enterers;
+      walk = subst (λ (r : Result Flow Refusal). IfOk r (λ x. IsWalk f (InPlaces (context_of x.walked)))) c.in-Ok.is c.in_ok-refusal.ensures.walk;
+      loops = subst (λ (r : Result Flow Refusal). IfOk r (λ x. AreToldLoops f)) c.in-Ok.is c.in_ok-refusal.ensures.loops;
+    }
