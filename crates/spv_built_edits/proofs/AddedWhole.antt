@@ -1,24 +1,28 @@
 -- A module that is built is built of the same functions with a declaration more.
-use Rattle.std.proofs.Common.{◌≡◌, inl, inr, ℕ, zero, suc, Bool, true, false, cond, ◌||◌, List, [], ◌∷◌, ◌++◌, Option, Some, None, refl, sym, ap, ap₂, subst, ◌∙◌, append_assoc}
+use Rattle.std.proofs.Common.{◌≡◌, inl, inr, ℕ, zero, suc, Bool, true, false, cond, ◌==◌, ◌&&◌, ◌||◌, List, [], ◌∷◌, ◌++◌, Option, Some, None, refl, sym, ap, ap₂, subst, ◌∙◌, append_assoc}
 use Rattle.std.specs.List.{AllByRecursion, flat_map, list_any, slice_get}
 use Rattle.std.specs.Option.{option_map}
 use Rattle.std.proofs.lemmas.Bool.{or_parts}
 use Rattle.std.proofs.lemmas.List.Elements.{All-cons, All-nil}
 use Rattle.spv_opcodes.specs.declared.op.TheConstants as op
 use Rattle.spv_module.specs.Code.{is_function, is_line}
-use Rattle.spv_module.specs.Instruction.{Instruction, IsInstruction, roles}
+use Rattle.spv_module.specs.Instruction.{Instruction, IsInstruction, opcode, roles}
 use Rattle.spv_ids.specs.Ids.{definition}
 use Rattle.spv_entries.specs.Bindings.{is_buffer}
-use Rattle.spv_bodies.specs.Bodies.{Function}
+use Rattle.spv_bodies.specs.Bodies.{Body, Front, Function, Parameter}
 use Rattle.spv_bodies.specs.Listing.{instruction, label_line, lines, listed}
 use Rattle.spv_tree.specs.Branches.{branches_in}
 use Rattle.spv_tree.specs.Sound.{is_step, opcode_in}
 use Rattle.spv_tree.specs.Tree.{words_of}
 use Rattle.spv_editing.specs.Editing.{KeepsSteps, unchanged}
+use Rattle.spv_editing.specs.Showing.{AStep, AUse, Shown, shown}
 use Rattle.spv_editing.proofs.Edits.{unchanged-function}
 use Rattle.spv_spelling.specs.Whole.{AreInstructions}
 use Rattle.spv_availability.specs.Availability.{is_everywhere}
 use Rattle.spv_fine.specs.Laws.{IsKnown, Told}
+use Rattle.spv_fine_edits.specs.Giving.{fronts_of}
+use Rattle.spv_fine_edits.proofs.Nothing.{all_are}
+use Rattle.spv_functions.specs.Functions.{defines_pointer, is_pointer}
 use Rattle.spv_respelling.proofs.EachLine.{OfSteps}
 use Rattle.spv_norm.specs.Norm.{outside}
 use Rattle.spv_norm_available.proofs.Known.{defined_outside, outside_defined, place_too}
@@ -27,10 +31,10 @@ use Rattle.spv_built.proofs.Lists.{all_left, all_right}
 use Rattle.spv_built_edits.specs.Edits.{AreEdited}
 use Rattle.spv_built_edits.proofs.Module.{module_stays}
 use Rattle.spv_added.specs.Added.{starts_function}
-use Rattle.spv_added.proofs.Walk.{Adding, FactOf, In, adding, along, inst}
-use Rattle.spv_added.proofs.Cases.{uses_what_stays}
+use Rattle.spv_added.proofs.Walk.{Adding, FactOf, In, adding, along, inst, new_defines}
+use Rattle.spv_added.proofs.Cases.{case_of, uses_what_stays}
 use Rattle.spv_added.proofs.Declared.{declared_of}
-use Rattle.spv_added.proofs.Definitions.{same_definition}
+use Rattle.spv_added.proofs.Definitions.{same_definition, same_words}
 use Rattle.spv_added.proofs.Entered.{all_entered}
 use Rattle.spv_added.proofs.Interfaces.{defined_stays}
 use Rattle.spv_added.proofs.Lists.{behind_same}
@@ -38,7 +42,7 @@ use Rattle.spv_added.proofs.LaidOut.{added_is_laid_out}
 use Rattle.spv_added.proofs.Places.{no_function, no_line, same_outside}
 use Rattle.spv_built_edits.specs.AddedLaws.{AddedIsBuilt}
 use Rattle.spv_built_edits.proofs.AddedSteps.{steps_back}
-use Rattle.spv_built_edits.proofs.Typed.{Line, structure_again, typed_again}
+use Rattle.spv_built_edits.proofs.Typed.{Line, OfFront, OfParameter, OfUse, structure_again, typed_again}
 use Rattle.spv_built_edits.proofs.Wider.{is_fine_among}
 
 -- ---- lists
@@ -173,38 +177,71 @@ module _ (t : Adding) (fs : List Function) (b : AreBuilt t.before fs) where
             everywhere = inr (ap is_everywhere (sym is) ∙ ap (λ ws. is_everywhere (inst ws)) words ∙ everywhere);
           }
 
+  -- ---- what is defined stays
+
+  each_use : (s : Shown) → OfUse (case_of t) s
+  each_use (AStep words) = tt
+  each_use (AUse id) = defined_stays t id
+
+  uses_stay : (b : Body) → AllByRecursion (OfUse (case_of t)) (shown b)
+  uses_stay b = all_are (OfUse (case_of t)) each_use (shown b)
+
+  fronts_stay : (b : Body) → AllByRecursion (OfFront (case_of t)) (fronts_of b)
+  fronts_stay b =
+      all_are (OfFront (case_of t))
+      (λ (front : Front). all_are (OfParameter (case_of t)) (λ (p : Parameter). defined_stays t p.type) front.parameters) (fronts_of b)
+
+  and_none : (b : Bool) → (b && false) ≡ false
+  and_none true = refl
+  and_none false = refl
+
+  or_none : (b c d : Bool) → b ≡ false → c ≡ d → (b || c) ≡ d
+  or_none true c d h e = absurd (cc h)
+  or_none false c d h e = e
+
+  pointers : (u : ℕ) → In t u → is_pointer t.after u ≡ is_pointer t.before u
+  pointers u s =
+      along t (λ is js. list_any (defines_pointer u) js ≡ list_any (defines_pointer u) is) refl
+      (λ j is js b w h. or_none (defines_pointer u j) (list_any (defines_pointer u) js) (list_any (defines_pointer u) is)
+      (ap (λ (c : Bool). (opcode j == op.TYPE_POINTER) && c) (new_defines t u j w ∙ s) ∙ and_none (opcode j == op.TYPE_POINTER)) h)
+      (λ i j is js f w h. ap₂ (λ (a b : Bool). a || b) (ap (λ ws. defines_pointer u (inst ws)) w) h)
+
   -- ---- functions
 
-  line_of : (i : Instruction) → FactOf t i → Line t i.words
+  abbrev OwnLine : List ℕ → Type 0
+  OwnLine = Line (case_of t)
+
+  line_of : (i : Instruction) → FactOf t i → OwnLine i.words
   line_of i f = let u = uses_what_stays t i f in record { whole = u.whole; used = u.used; function = u.function }
 
-  listed_lines : AllByRecursion (λ f. AllByRecursion (Line t) (listed f)) fs
+  listed_lines : AllByRecursion (λ f. AllByRecursion OwnLine (listed f)) fs
   listed_lines =
-      each_listing (Line t) fs
-      (all_right (Line t) (words_of (outside t.before)) (flat_map listed fs)
-      (subst (AllByRecursion (Line t)) b.lines (to_words (Line t) t.before (all_to (FactOf t) (λ i. Line t i.words) t.before line_of t.facts))))
+      each_listing OwnLine fs
+      (all_right OwnLine (words_of (outside t.before)) (flat_map listed fs)
+      (subst (AllByRecursion OwnLine) b.lines (to_words OwnLine t.before (all_to (FactOf t) (λ i. OwnLine i.words) t.before line_of t.facts))))
 
-  module _ (f : Function) (built : FunctionIsBuilt t.before f) (ls : AllByRecursion (Line t) (listed f)) where
-    steps : OfSteps (Line t) f.body
+  module _ (f : Function) (built : FunctionIsBuilt t.before f) (ls : AllByRecursion OwnLine (listed f)) where
+    steps : OfSteps OwnLine f.body
     steps =
-        steps_back (Line t) (branches_in f) f.body [] built.sound.formed
-        (all_left (Line t) (lines (branches_in f) [] f.body) (instruction op.FUNCTION_END [] ∷ [])
-        (all_right (Line t) f.parameters (label_line f.label ∷ (lines (branches_in f) [] f.body ++ instruction op.FUNCTION_END [] ∷ [])) ls.1).1)
+        steps_back OwnLine (branches_in f) f.body [] built.sound.formed
+        (all_left OwnLine (lines (branches_in f) [] f.body) (instruction op.FUNCTION_END [] ∷ [])
+        (all_right OwnLine f.parameters (label_line f.label ∷ (lines (branches_in f) [] f.body ++ instruction op.FUNCTION_END [] ∷ [])) ls.1).1)
 
     built_again : FunctionIsBuilt t.after f
     built_again = record {
       sound = built.sound;
       opens = built.opens;
       short = built.short;
-      structured = structure_again t f built.typed built.structured;
+      structured = structure_again (case_of t) pointers f (fronts_stay f.body) built.typed built.structured;
       normal = built.normal;
       shallow = built.shallow;
-      typed = typed_again t f built.opens.function ls.0 steps built.typed;
+      typed =
+          typed_again (case_of t) (λ u s. same_words t u s 3) f built.opens.function ls.0 steps (uses_stay f.body) (fronts_stay f.body) built.typed;
       promised = built.promised;
       fine = is_fine_among (IsKnown t.before) (IsKnown t.after) (λ label. Told (built.promised label)) f known_again built.fine;
     }
 
-  all_again : (gs : List Function) → AllByRecursion (FunctionIsBuilt t.before) gs → AllByRecursion (λ f. AllByRecursion (Line t) (listed f)) gs
+  all_again : (gs : List Function) → AllByRecursion (FunctionIsBuilt t.before) gs → AllByRecursion (λ f. AllByRecursion OwnLine (listed f)) gs
       → AllByRecursion (FunctionIsBuilt t.after) gs
   all_again [] h ls = tt
   all_again (f ∷ gs) h ls = (built_again f h.0 ls.0, all_again gs h.1 ls.1)

@@ -1,5 +1,5 @@
 -- A function that is built and edited is built in the module that it then stands in.
-use Rattle.std.proofs.Common.{◌≡◌, ◌⊎◌, inl, inr, ◌≤◌, ℕ, Bool, true, false, ◌==◌, ◌&&◌, ◌||◌, not, List, [], ◌∷◌, refl, sym, ap, ◌∙◌, subst, true≢false, eqb-true, eq-eqb}
+use Rattle.std.proofs.Common.{◌≡◌, inl, inr, ◌≤◌, ℕ, Bool, true, false, ◌==◌, ◌&&◌, ◌||◌, not, List, [], ◌∷◌, refl, sym, ap, ◌∙◌, subst, true≢false, eqb-true, eq-eqb}
 use Rattle.std.proofs.Math.Path.{fun_ext}
 use Rattle.std.specs.List.{AllByRecursion, list_any}
 use Rattle.spv_blocks.specs.Blocks.{has}
@@ -7,7 +7,7 @@ use Rattle.spv_bodies.specs.Bodies.{Function}
 use Rattle.spv_functions.specs.Functions.{is_pointer}
 use Rattle.spv_tree.specs.Sound.{fronts}
 use Rattle.spv_structured.specs.Structured.{IsStructured}
-use Rattle.spv_editing.specs.Editing.{edited, edited_function}
+use Rattle.spv_editing.specs.Editing.{edited_function}
 use Rattle.spv_editing.proofs.Kept.{depth-kept}
 use Rattle.spv_editing.proofs.Soundness.{sound-kept}
 use Rattle.spv_fine.specs.Fine.{Ids, IsFine}

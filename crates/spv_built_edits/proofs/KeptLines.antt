@@ -3,7 +3,6 @@ use Rattle.std.proofs.Common.{◌≡◌, ℕ, Bool, true, false, cond, not, ◌=
 use Rattle.std.specs.List.{AllByRecursion}
 use Rattle.std.proofs.lemmas.Bool.{or_parts}
 use Rattle.spv_opcodes.specs.declared.op.TheConstants as op
-use Rattle.spv_module.specs.declared.layout.Layout.{Layout}
 use Rattle.spv_module.specs.declared.layout.Place.{Place}
 use Rattle.spv_module.specs.declared.layout.Place.TheVariants.{Outside, Head, Between, Inside}
 use Rattle.spv_module.specs.Code.{is_line}

@@ -1,11 +1,11 @@
 -- What holds of the lines of a listing holds of the steps of the tree, and of what its parts end with.
 use Rattle.std.proofs.Common.{◌≡◌, ℕ, true, List, [], ◌∷◌, ◌++◌}
-use Rattle.std.specs.List.{AllByRecursion, flat_map}
+use Rattle.std.specs.List.{AllByRecursion}
 use Rattle.spv_opcodes.specs.declared.op.TheConstants as op
 use Rattle.spv_bodies.specs.Bodies.{Front, Body, Leaves, Finishes, Step, Enters, Splits, Selects, Switches, Loops, Arms, Last, Also, ByBranch, InPlace, begins_at_branch, target}
 use Rattle.spv_bodies.specs.Listing.{Branching, arm_lines, branch_line, first_target, front_lines, instruction, label_line, lines, lines_of_arms, loop_line, pair_words, selection_line, split_line}
 use Rattle.spv_tree.specs.Sound.{AreFormed, IsFormed}
-use Rattle.spv_editing.specs.Showing.{Shown, AStep, AUse, carried, operands, shown, shown_in_arms, uses, words_shown}
+use Rattle.spv_editing.specs.Showing.{Shown, AStep, AUse, carried, operands, shown, shown_in_arms, uses}
 use Rattle.spv_respelling.proofs.EachLine.{OfArms, OfSteps}
 use Rattle.spv_built.proofs.Lists.{all_left, all_right}
 
@@ -133,9 +133,3 @@ module _ (Q : List ℕ → Type 0) where
     arms_shown : (arms : Arms) → OfArms Q arms → Ss (shown_in_arms arms)
     arms_shown (Last b) h = shown_steps b h
     arms_shown (Also b arms) h = join (shown b) (shown_in_arms arms) (shown_steps b h.0) (arms_shown arms h.1)
-
-  -- the steps alone
-  pub of_steps : (all : List Shown) → Ss all → AllByRecursion Q (flat_map words_shown all)
-  of_steps [] h = tt
-  of_steps (AStep words ∷ all) h = (h.0, of_steps all h.1)
-  of_steps (AUse id ∷ all) h = of_steps all h.1

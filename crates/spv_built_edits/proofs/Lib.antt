@@ -8,6 +8,7 @@ pub mod Values
 pub mod Kept
 pub mod KeptSteps
 pub mod KeptLines
+pub mod KeptFronts
 pub mod Parameters
 pub mod ThinnedWhole
 pub mod RewrittenLines
@@ -16,3 +17,10 @@ pub mod AddedSteps
 pub mod Wider
 pub mod Typed
 pub mod AddedWhole
+pub mod ReplacedParts
+pub mod ReplacedSteps
+pub mod ReplacedLines
+pub mod ReplacedChanges
+pub mod ReplacedBounds
+pub mod ReplacedWhole
+pub mod ReplacedNames

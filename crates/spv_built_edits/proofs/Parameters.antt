@@ -1,14 +1,13 @@
 -- Nothing stands between OpFunction and its parameters but line marks: what goes, and is neither, stands in front of no parameter.
-use Rattle.std.proofs.Common.{◌≡◌, ℕ, zero, suc, ◌≤◌, Bool, true, false, cond, not, ◌==◌, ◌||◌, List, [], ◌∷◌, drop, slice_get, Some, None, refl, sym, ap, subst, ◌∙◌, true≢false}
+use Rattle.std.proofs.Common.{◌≡◌, ℕ, zero, suc, ◌≤◌, Bool, true, false, cond, not, ◌==◌, ◌||◌, List, [], ◌∷◌, drop, slice_get, Some, refl, sym, ap, subst, ◌∙◌, true≢false}
 use Rattle.spv_opcodes.specs.declared.op.TheConstants as op
 use Rattle.spv_module.specs.declared.layout.Place.{Place}
 use Rattle.spv_module.specs.declared.layout.Place.TheVariants.{Outside, Head, Between, Inside}
 use Rattle.spv_module.specs.Code.{is_function, is_line, plain_section}
-use Rattle.spv_module.specs.First.{first}
 use Rattle.spv_module.specs.Instruction.{Instruction, opcode}
-use Rattle.spv_module.specs.Layout.{behind, fits_place, group_2, is_head, is_inside, is_terminator, without_lines}
+use Rattle.spv_module.specs.Layout.{behind, is_head, is_inside, is_terminator, without_lines}
 use Rattle.spv_signatures.specs.Functions.{is_parameter, leading_parameters, parameter}
-use Rattle.spv_texts.proofs.Functions.{AFunction, ALabel, AParameter, AnEnd, Another, Fits, IsKind, behind_function, behind_label, behind_other, behind_parameter, differ, fits_in_module, kind_of, other_fits, parameter_fits, section_of_other}
+use Rattle.spv_texts.proofs.Functions.{AFunction, ALabel, AParameter, AnEnd, Another, Fits, IsKind, behind_label, behind_other, behind_parameter, differ, fits_in_module, kind_of, other_fits, parameter_fits, section_of_other}
 use Rattle.spv_walk.proofs.Unique.{equal_true}
 use Rattle.spv_built_edits.specs.Thinned.{IsNoOpening}
 use Rattle.spv_built_edits.specs.ThinnedLaws.{NoParametersBehind}

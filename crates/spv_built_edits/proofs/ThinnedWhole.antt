@@ -1,55 +1,61 @@
 -- What is left of a module that is built is built of its functions without the steps that were dropped.
-use Rattle.std.proofs.Common.{◌≡◌, ◌⊎◌, inl, inr, ℕ, Bool, true, false, cond, ◌==◌, ◌||◌, List, [], ◌∷◌, ◌++◌, filter, zero, suc, nat_eq, arith, drop, Some, None, refl, sym, ap, ap₂, subst, ◌∙◌, true≢false}
-use Rattle.std.specs.List.{AllByRecursion, flat_map, list_all, slice_get, slice_index}
+use Rattle.std.proofs.Common.{◌≡◌, ℕ, Bool, true, false, cond, ◌&&◌, ◌||◌, ◌==◌, not, List, [], ◌∷◌, ◌++◌, filter, map, zero, suc, nat_eq, arith, drop, Some, None, refl, sym, ap, subst, ◌∙◌}
+use Rattle.std.specs.List.{AllByRecursion, flat_map, slice_get, slice_index}
 use Rattle.std.specs.Option.{option_map_or}
 use Rattle.std.proofs.lemmas.Bool.Decides.{nat_tests}
 use Rattle.spv_opcodes.specs.declared.op.TheConstants as op
 use Rattle.spv_grammar.specs.Roles.{is_defined_id}
 use Rattle.spv_grammar.specs.Table.{row_of}
 use Rattle.spv_module.specs.Code.{is_line}
-use Rattle.spv_module.specs.First.{first}
 use Rattle.spv_module.specs.Instruction.{Instruction, IsInstruction, opcode, roles, word_with}
 use Rattle.spv_module.specs.Layout.{is_entry_point}
-use Rattle.spv_declarations.specs.Broken.{group_3}
 use Rattle.spv_declarations.specs.Laws.{IsUnbroken}
 use Rattle.spv_declarations.proofs.Parts.{defined-typed, first_typed, row_test, typed-words}
-use Rattle.spv_ids.specs.Ids.{defines, used_ids}
+use Rattle.spv_ids.specs.Ids.{defines}
 use Rattle.spv_repeats.specs.Repeats.{is_workgroup_size}
 use Rattle.spv_entries.specs.Sizes.{is_mode}
 use Rattle.spv_typing.specs.Kinds.{is_one_of}
-use Rattle.spv_bodies.specs.Bodies.{Function}
-use Rattle.spv_bodies.specs.Listing.{Branching, branches, instruction, label_line, lines, listed}
+use Rattle.spv_bodies.specs.Bodies.{Function, Parameter}
+use Rattle.spv_bodies.specs.Listing.{Branching, in_order, instruction, label_line, lines, listed, pair_words, phi_line, phi_pairs}
+use Rattle.spv_normal_trees.proofs.Texts.{opcode_spelled}
 use Rattle.spv_tree.specs.Branches.{branches_in}
 use Rattle.spv_tree.specs.Sound.{opcode_in}
 use Rattle.spv_tree.specs.Tree.{words_of}
-use Rattle.spv_editing.specs.Editing.{edited_function}
-use Rattle.spv_editing.specs.Showing.{shown, steps_of}
+use Rattle.spv_editing.specs.Editing.{Edit, KeepsSteps, edited_function}
+use Rattle.spv_editing.specs.Showing.{AStep, AUse, Shown, edited_shown, shown}
+use Rattle.spv_editing.proofs.Shows.{shown-kept}
 use Rattle.spv_spelling.specs.Whole.{AreInstructions}
-use Rattle.spv_fine.specs.Fine.{used_in}
-use Rattle.spv_fine.specs.Laws.{IsKnown}
-use Rattle.spv_fine_edits.specs.Giving.{Begins}
-use Rattle.spv_fine_edits.specs.Laws.{DropsIn}
+use Rattle.spv_fine.specs.Fine.{IsFine, used_in}
+use Rattle.spv_fine.specs.Laws.{IsKnown, Told}
+use Rattle.spv_fine_edits.specs.Giving.{Begins, fronts_of}
+use Rattle.spv_fine_edits.specs.Laws.{StaysOrGoes}
+use Rattle.spv_fine_edits.proofs.Bools.{both_told, each_told}
+use Rattle.spv_fine_edits.proofs.Dropped.{fine_where_dropped}
 use Rattle.spv_typed_trees.specs.Typed.{as_instruction}
 use Rattle.spv_norm.specs.Norm.{outside}
 use Rattle.spv_alike_uses.specs.Alike.{AreAlikeBut, Stays}
-use Rattle.spv_thinned.specs.Thinned.{IsThinned, lasting_kinds}
-use Rattle.spv_thinned.proofs.Definitions.{Fact}
+use Rattle.spv_alike_uses.proofs.Lookups.{Case, In}
+use Rattle.spv_alike_uses.proofs.Used.{used_word, word_uses}
+use Rattle.spv_thinned.specs.Thinned.{IsThinned}
+use Rattle.spv_thinned.proofs.Definitions.{Fact, same_words}
 use Rattle.spv_thinned.proofs.Walk.{each_at, inst}
 use Rattle.spv_thinned.proofs.Whole.{facts_of, thinned_is_alike}
 use Rattle.spv_built.specs.Built.{AreBuilt, FunctionIsBuilt}
 use Rattle.spv_built.proofs.Lists.{all_left, all_right}
-use Rattle.spv_built_edits.specs.Edits.{AreEdited, AreLines, StandsRound}
+use Rattle.spv_built_edits.specs.Edits.{AreEdited, StandsRound}
 use Rattle.spv_built_edits.proofs.Built.{built_where_dropped}
-use Rattle.spv_built_edits.proofs.Dropping.{fits_where_dropped}
+use Rattle.spv_built_edits.proofs.Dropping.{fits_within}
 use Rattle.spv_built_edits.proofs.Module.{module_stays}
 use Rattle.spv_thinned_declarations.proofs.Whole.{thinned_is_declared}
 use Rattle.spv_thinned_entries.specs.Laws.{KeepsEntries}
 use Rattle.spv_thinned_entries.proofs.Entered.{thinned_is_entered}
 use Rattle.spv_built_edits.specs.ThinnedLaws.{ThinnedIsBuilt}
-use Rattle.spv_built_edits.specs.Thinned.{AreThinned, IsThinnedFunction, KeepsShape, KeepsSizes, KeepsTypes, shaping_kinds}
-use Rattle.spv_built_edits.proofs.Kept.{all_both, known_stays, no_type, outside_is_thinned, same_pointer, types_stay}
+use Rattle.spv_built_edits.specs.Thinned.{AreThinned, KeepsShape, KeepsSizes, shaping_kinds}
+use Rattle.spv_built_edits.proofs.Kept.{all_both, known_stays, outside_is_thinned, same_pointer}
+use Rattle.spv_built_edits.proofs.KeptFronts.{fronts_back}
 use Rattle.spv_built_edits.proofs.KeptLines.{thinned_is_laid_out}
-use Rattle.spv_built_edits.proofs.KeptSteps.{of_steps, shown_steps, steps_back}
+use Rattle.spv_built_edits.proofs.KeptSteps.{all_join, steps_back}
+use Rattle.spv_built_edits.proofs.Typed.{Line, OfFront, OfParameter, OfUse, structure_again, typed_again}
 
 -- ---- lists
 
@@ -66,13 +72,17 @@ from_words : (Q : List ℕ → Type 0) (is : List Instruction) → AllByRecursio
 from_words Q [] h = tt
 from_words Q (i ∷ is) h = (h.0, from_words Q is h.1)
 
-kept_all : (P : Instruction → Type 0) (keep : Instruction → Bool) (is : List Instruction) → AllByRecursion P is → AllByRecursion P (filter keep is)
-kept_all P keep [] h = tt
-kept_all P keep (i ∷ is) h = by (keep i) (kept_all P keep is h.1)
+kept_by : (F P : Instruction → Type 0) (keep : Instruction → Bool) → ((i : Instruction) → F i → keep i ≡ true → P i) → (is : List Instruction)
+    → AllByRecursion F is → AllByRecursion P (filter keep is)
+kept_by F P keep to [] h = tt
+kept_by F P keep to (i ∷ is) h = by (keep i) refl (kept_by F P keep to is h.1)
   where
-    by : (b : Bool) → AllByRecursion P (filter keep is) → AllByRecursion P (cond b (i ∷ filter keep is) (filter keep is))
-    by true more = (h.0, more)
-    by false more = more
+    by : (b : Bool) → keep i ≡ b → AllByRecursion P (filter keep is) → AllByRecursion P (cond b (i ∷ filter keep is) (filter keep is))
+    by true e more = (to i h.0 e, more)
+    by false e more = more
+
+kept_all : (P : Instruction → Type 0) (keep : Instruction → Bool) (is : List Instruction) → AllByRecursion P is → AllByRecursion P (filter keep is)
+kept_all P keep is h = kept_by P P keep (λ i p e. p) is h
 
 at_each : (P : Instruction → Type 0) (is : List Instruction) → AllByRecursion P is → (k : ℕ) (i : Instruction) → slice_get is k ≡ Some i → P i
 at_each P [] h k i e = absurd (cc e)
@@ -103,11 +113,43 @@ function_typed = refl
 itself : (k : ℕ) → nat_eq k k ≡ true
 itself k = grind (arith, nat_tests)
 
+-- ---- what lines use and define
+
+phi_uses : word_uses 0 op.PHI ≡ true
+unfolding row_of
+phi_uses = refl
+
+-- an OpPhi uses its type
+type_stays : (c : Case) (k : ℕ) (here : List Branching) (p : Parameter) → Line c (phi_line k here p) → OfParameter c p
+type_stays c k here p line = λ i d.
+    used_word (In c) (as_instruction (phi_line k here p)) line.whole line.used 0
+    (ap (word_uses 0) (opcode_spelled op.PHI (p.type ∷ p.result_id ∷ pair_words (phi_pairs k (in_order p.parents here))) (omega arith)) ∙ phi_uses)
+
+-- an OpFunction defines its third word
+function_defines : (ws : List ℕ) → IsInstruction ws (roles (inst ws)) → opcode_in ws ≡ op.FUNCTION → defines (slice_index ws 2) (inst ws) ≡ true
+function_defines ws whole is =
+    let typed : row_test first_typed (row_of (opcode (inst ws))) ≡ true = ap (λ o. row_test first_typed (row_of o)) is ∙ function_typed in
+    let t = typed-words (inst ws) (opcode (inst ws)) whole refl typed in
+    let defined : word_with is_defined_id (inst ws) ≡ Some (slice_index (drop 1 ws) 1) = defined-typed (inst ws) whole typed in
+    let third : slice_index (drop 1 ws) 1 ≡ slice_index ws 2 =
+    ap (λ ws. slice_index (drop 1 ws) 1) t.words_are ∙ sym (ap (λ ws. slice_index ws 2) t.words_are) in
+    ap (λ o. option_map_or (nat_eq (slice_index ws 2)) o false) (defined ∙ ap Some third) ∙ itself (slice_index ws 2)
+
+-- what is used elsewhere, behind an edit that drops steps
+no_uses : (c : Case) (lines : List (List ℕ)) → AllByRecursion (OfUse c) (map AStep lines)
+no_uses c [] = tt
+no_uses c (line ∷ lines) = (tt, no_uses c lines)
+
+uses_left : (c : Case) (e : Edit) (all : List Shown) → AllByRecursion (StaysOrGoes c.gone e) all → AllByRecursion (OfUse c) (flat_map (edited_shown e) all)
+uses_left c e [] h = tt
+uses_left c e (AStep words ∷ all) h =
+    all_join (OfUse c) (map AStep (e.steps words)) (flat_map (edited_shown e) all) (no_uses c (e.steps words)) (uses_left c e all h.1)
+uses_left c e (AUse id ∷ all) h = (λ i d. subst (In c) (sym h.0.0) h.0.1, uses_left c e all h.1)
+
 -- ---- the module
 
 module _ (gone : ℕ → Bool) (keep : Instruction → Bool) (before after : List Instruction) (fs : List Function) (formed : AreInstructions before)
-    (b : AreBuilt before fs) (thin : IsThinned gone keep before after) (shape : KeepsShape keep before)
-    (keeps_types : KeepsTypes keep before) (sizes : KeepsSizes keep before) where
+    (b : AreBuilt before fs) (thin : IsThinned gone keep before after) (shape : KeepsShape keep before) (sizes : KeepsSizes keep before) where
   unbroken : IsUnbroken before
   unbroken = record { whole = formed; unrefused = b.declared }
 
@@ -149,101 +191,112 @@ module _ (gone : ℕ → Bool) (keep : Instruction → Bool) (before after : Lis
 
   -- ---- lines of functions
 
-  -- what is not dropped of functions uses what stays, and an OpFunction defines what stays
-  record Line (ws : List ℕ) : Type 0 where
-    whole : IsInstruction ws (roles (inst ws))
-    used : is_one_of lasting_kinds (opcode_in ws) ≡ true → AllByRecursion (Stays gone) (used_in ws)
-    defined : is_one_of lasting_kinds (opcode_in ws) ≡ true → (id : ℕ) → defines id (inst ws) ≡ true → Stays gone id
+  abbrev c : Case
+  c = record { gone = gone; before = before; after = after; unbroken = unbroken; alike = alike }
 
-  line_of : (i : Instruction) → Fact gone keep before i → Line i.words
-  line_of i f = by (keep i) refl
-    where
-      by : (kept : Bool) → keep i ≡ kept → Line i.words
-      by true e = record { whole = f.whole; used = λ h. (f.kept e).used; defined = λ h. (f.kept e).defined }
-      by false e = record {
-        whole = f.whole;
-        used = λ h. absurd (true≢false (sym h ∙ (f.dropped e).passing));
-        defined = λ h. absurd (true≢false (sym h ∙ (f.dropped e).passing));
-      }
+  abbrev OwnLine : List ℕ → Type 0
+  OwnLine = Line c
 
-  listed_lines : AllByRecursion (λ f. AllByRecursion Line (listed f)) fs
-  listed_lines =
-      each_listing Line fs
-      (all_right Line (words_of (outside before)) (flat_map listed fs)
-      (subst (AllByRecursion Line) b.lines
-      (to_words Line before (all_to (Fact gone keep before) (λ i. Line i.words) before line_of facts))))
+  -- what is kept uses what stays, and an OpFunction defines what stays
+  line_of : (i : Instruction) → Fact gone keep before i → keep i ≡ true → OwnLine i.words
+  line_of i f e = record {
+    whole = f.whole;
+    used = (f.kept e).used;
+    function = λ is. (f.kept e).defined (slice_index i.words 2) (function_defines i.words f.whole is);
+  }
+
+  -- so it is in the functions that are left, by their listings
+  listed_lines : (gs : List Function) → words_of after ≡ words_of (outside after) ++ flat_map listed gs
+      → AllByRecursion (λ g. AllByRecursion OwnLine (listed g)) gs
+  listed_lines gs e =
+      each_listing OwnLine gs
+      (all_right OwnLine (words_of (outside after)) (flat_map listed gs)
+      (subst (AllByRecursion OwnLine) (sym thin.words ∙ e)
+      (to_words OwnLine (filter keep before) (kept_by (Fact gone keep before) (λ i. OwnLine i.words) keep line_of before facts))))
 
   -- ---- one function
 
-  module _ (f g : Function) (built : FunctionIsBuilt before f) (ls : AllByRecursion Line (listed f)) (t : IsThinnedFunction gone f g) where
-    are_lines : AreLines f
-    are_lines =
-        of_steps (λ ws. IsInstruction ws (roles (as_instruction ws))) (shown f.body)
-        (shown_steps (λ ws. IsInstruction ws (roles (as_instruction ws))) f.body
-        (steps_back (λ ws. IsInstruction ws (roles (as_instruction ws))) (branches_in f) f.body [] built.sound.formed
-        (all_to Line (λ ws. IsInstruction ws (roles (as_instruction ws))) (lines (branches_in f) [] f.body) (λ ws l. l.whole)
-        (all_left Line (lines (branches_in f) [] f.body) (instruction op.FUNCTION_END [] ∷ [])
-        (all_right Line f.parameters (label_line f.label ∷ (lines (branches_in f) [] f.body ++ instruction op.FUNCTION_END [] ∷ [])) ls.1).1))))
+  module _ (f : Function) (e : Edit) (built : FunctionIsBuilt before f) (keeps : KeepsSteps e) (body : AllByRecursion (StaysOrGoes gone e) (shown f.body))
+      (ls : AllByRecursion OwnLine (listed (edited_function e f))) where
+    abbrev left : Function
+    left = edited_function e f
 
-    function_lasts : is_one_of lasting_kinds (opcode_in f.function) ≡ true
-    function_lasts = ap (is_one_of lasting_kinds) built.opens.function
+    -- ---- in the module before
 
-    function_stays : Stays gone (slice_index f.function 2)
-    function_stays =
-        let l = ls.0 in
-        let typed : row_test first_typed (row_of (opcode (inst f.function))) ≡ true =
-        ap (λ o. row_test first_typed (row_of o)) built.opens.function ∙ function_typed in
-        let t = typed-words (inst f.function) (opcode (inst f.function)) l.whole refl typed in
-        let defined : word_with is_defined_id (inst f.function) ≡ Some (slice_index (drop 1 f.function) 1) = defined-typed (inst f.function) l.whole typed in
-        let third : slice_index (drop 1 f.function) 1 ≡ slice_index f.function 2 =
-        ap (λ ws. slice_index (drop 1 ws) 1) t.words_are ∙ sym (ap (λ ws. slice_index ws 2) t.words_are) in
-        l.defined function_lasts (slice_index f.function 2)
-        (ap (λ o. option_map_or (nat_eq (slice_index f.function 2)) o false) (defined ∙ ap Some third) ∙ itself (slice_index f.function 2))
+    built_within : FunctionIsBuilt before left
+    built_within =
+        built_where_dropped before before e gone f (fits_within gone before e f formed keeps body)
+        (record { known = λ id k s. k; begins = (built.fine.function, built.fine.parameters); body = body }) built
+
+    -- ---- in the module after
+
+    parameter_lines : AllByRecursion OwnLine left.parameters
+    parameter_lines =
+        all_left OwnLine left.parameters (label_line left.label ∷ (lines (branches_in left) [] left.body ++ instruction op.FUNCTION_END [] ∷ [])) ls.1
+
+    body_lines : AllByRecursion OwnLine (lines (branches_in left) [] left.body)
+    body_lines =
+        all_left OwnLine (lines (branches_in left) [] left.body) (instruction op.FUNCTION_END [] ∷ [])
+        (all_right OwnLine left.parameters (label_line left.label ∷ (lines (branches_in left) [] left.body ++ instruction op.FUNCTION_END [] ∷ [])) ls.1).1
 
     known_again : (ids : List ℕ) → AllByRecursion (IsKnown before) ids → AllByRecursion (Stays gone) ids → AllByRecursion (IsKnown after) ids
     known_again ids h s =
         all_to (λ id. IsKnown before id × Stays gone id) (IsKnown after) ids (λ id p. known_stays gone keep before after thin facts alike id p.0 p.1)
         (all_both (IsKnown before) (Stays gone) ids h s)
 
-    parameter_again : (ws : List ℕ) → (AllByRecursion (IsKnown before) (used_in ws) × (opcode_in ws ≡ op.FUNCTION_PARAMETER)) × Line ws
-        → AllByRecursion (IsKnown after) (used_in ws)
-    parameter_again ws p = known_again (used_in ws) p.0.0 (p.1.used (ap (is_one_of lasting_kinds) p.0.1))
-
     begins : Begins (IsKnown after) f
-    begins =
-        let known : AllByRecursion (λ ws. AllByRecursion (IsKnown before) (used_in ws)) f.parameters = built.fine.parameters in
-        let lined : AllByRecursion Line f.parameters =
-        all_left Line f.parameters (label_line f.label ∷ (lines (branches_in f) [] f.body ++ instruction op.FUNCTION_END [] ∷ [])) ls.1 in (
-          known_again (used_in f.function) built.fine.function (ls.0.used function_lasts),
-          all_to (λ ws. (AllByRecursion (IsKnown before) (used_in ws) × (opcode_in ws ≡ op.FUNCTION_PARAMETER)) × Line ws)
-              (λ ws. AllByRecursion (IsKnown after) (used_in ws)) f.parameters parameter_again
-              (all_both (λ ws. AllByRecursion (IsKnown before) (used_in ws) × (opcode_in ws ≡ op.FUNCTION_PARAMETER)) Line f.parameters
-              (all_both (λ ws. AllByRecursion (IsKnown before) (used_in ws)) (λ ws. opcode_in ws ≡ op.FUNCTION_PARAMETER) f.parameters known
-              built.opens.parameters) lined),
-        )
+    begins = (
+      known_again (used_in f.function) built.fine.function ls.0.used,
+      all_to (λ ws. AllByRecursion (IsKnown before) (used_in ws) × OwnLine ws) (λ ws. AllByRecursion (IsKnown after) (used_in ws)) f.parameters
+          (λ ws p. known_again (used_in ws) p.0 p.1.used)
+          (all_both (λ ws. AllByRecursion (IsKnown before) (used_in ws)) OwnLine f.parameters built.fine.parameters parameter_lines),
+    )
 
-    drops : DropsIn gone t.edit (IsKnown before) (IsKnown after) f
-    drops = record { known = λ id k s. known_stays gone keep before after thin facts alike id k s; begins = begins; body = t.body }
+    abbrev promised : (label id : ℕ) → Bool
+    promised label id = built.promised label id && not (gone id)
 
-    built_again : FunctionIsBuilt after g
-    built_again =
-        subst (FunctionIsBuilt after) (sym t.same)
-        (built_where_dropped before after t.edit gone f
-        (fits_where_dropped before after t.edit gone f unbroken alike
-        (record {
-          stay = types_stay gone keep before after thin facts keeps_types;
-          none = no_type gone keep before after thin facts;
-          pointers = same_pointer gone keep before after thin facts keeps_types;
-        }) built.sound are_lines function_stays t.keeps drops) drops built)
+    fine_again : IsFine (IsKnown after) (λ label. Told (promised label)) left
+    fine_again =
+        fine_where_dropped e gone (IsKnown before) (IsKnown after) (λ label. Told (built.promised label)) (λ label. Told (promised label)) f
+        (λ label id p s. both_told (built.promised label id) (gone id) p s) (λ label id p. each_told (built.promised label id) (gone id) p) built.sound
+        (record { known = λ id k s. known_stays gone keep before after thin facts alike id k s; begins = begins; body = body }) built.fine
+
+    fronts_stay : AllByRecursion (OfFront c) (fronts_of left.body)
+    fronts_stay =
+        fronts_back OwnLine (OfParameter c) (branches_in left) (type_stays c) left.body None [] built_within.sound.formed
+        built_within.sound.placed tt body_lines
+
+    uses_stay : AllByRecursion (OfUse c) (shown left.body)
+    uses_stay = subst (AllByRecursion (OfUse c)) (sym (shown-kept e f.body)) (uses_left c e (shown f.body) body)
+
+    built_again : FunctionIsBuilt after left
+    built_again = record {
+      sound = built_within.sound;
+      opens = built_within.opens;
+      short = built_within.short;
+      structured =
+          structure_again c (same_pointer gone keep before after thin facts) left fronts_stay built_within.typed built_within.structured;
+      normal = built_within.normal;
+      shallow = built_within.shallow;
+      typed =
+          typed_again c (λ u s. same_words gone keep before after thin facts u s 3) left built.opens.function ls.0
+          (steps_back OwnLine (branches_in left) left.body [] built_within.sound.formed body_lines) uses_stay fronts_stay built_within.typed;
+      promised = promised;
+      fine = fine_again;
+    }
 
   -- ---- all of them
 
-  all_again : (fs gs : List Function) → AllByRecursion (FunctionIsBuilt before) fs → AllByRecursion (λ f. AllByRecursion Line (listed f)) fs
+  all_again : (fs gs : List Function) → AllByRecursion (FunctionIsBuilt before) fs → AllByRecursion (λ g. AllByRecursion OwnLine (listed g)) gs
       → AreThinned gone fs gs → AllByRecursion (FunctionIsBuilt after) gs
   all_again [] [] h ls t = tt
   all_again [] (g ∷ gs) h ls t = absurd t
   all_again (f ∷ fs) [] h ls t = absurd t
-  all_again (f ∷ fs) (g ∷ gs) h ls t = (built_again f g h.0 ls.0 t.0, all_again fs gs h.1 ls.1 t.1)
+  all_again (f ∷ fs) (g ∷ gs) h ls t = (
+    subst (FunctionIsBuilt after) (sym t.0.same)
+        (built_again f t.0.edit h.0 t.0.keeps t.0.body (subst (λ z. AllByRecursion OwnLine (listed z)) t.0.same ls.0)),
+    all_again fs gs h.1 ls.1 t.1,
+  )
 
   are_edited : (fs gs : List Function) → AreThinned gone fs gs → AreEdited fs gs
   are_edited [] [] t = tt
@@ -261,8 +314,8 @@ module _ (gone : ℕ → Bool) (keep : Instruction → Bool) (before after : Lis
   }
 
 pub thinned_is_built : ThinnedIsBuilt
-thinned_is_built gone keep before after fs gs formed b thin shape types sizes lines t =
-    module_stays before after fs gs formed (formed_after gone keep before after fs formed b thin shape types sizes) b
-    (are_edited gone keep before after fs formed b thin shape types sizes fs gs t) (round gone keep before after fs formed b thin shape types sizes gs lines)
-    (all_again gone keep before after fs formed b thin shape types sizes fs gs b.functions
-    (listed_lines gone keep before after fs formed b thin shape types sizes) t)
+thinned_is_built gone keep before after fs gs formed b thin shape sizes lines t =
+    module_stays before after fs gs formed (formed_after gone keep before after fs formed b thin shape sizes) b
+    (are_edited gone keep before after fs formed b thin shape sizes fs gs t) (round gone keep before after fs formed b thin shape sizes gs lines)
+    (all_again gone keep before after fs formed b thin shape sizes fs gs b.functions
+    (listed_lines gone keep before after fs formed b thin shape sizes gs lines) t)

@@ -4,3 +4,5 @@ pub mod Thinned
 pub mod ThinnedLaws
 pub mod RewrittenLaws
 pub mod AddedLaws
+pub mod Replaced
+pub mod ReplacedLaws

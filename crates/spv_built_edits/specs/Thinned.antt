@@ -9,7 +9,6 @@ use Rattle.spv_bodies.specs.Bodies.{Function}
 use Rattle.spv_editing.specs.Editing.{Edit, KeepsSteps, edited_function}
 use Rattle.spv_editing.specs.Showing.{shown}
 use Rattle.spv_fine_edits.specs.Laws.{StaysOrGoes}
-use Rattle.spv_typed_edits.specs.Edits.{type_kinds}
 
 -- what a module has to have, what makes its functions and blocks, and the modes of its entry points
 abbrev pub shaping_kinds : List ℕ
@@ -21,10 +20,7 @@ shaping_kinds =
 abbrev pub KeepsShape : (keep : Instruction → Bool) → List Instruction → Type 0
 KeepsShape keep insts = (k : ℕ) (i : Instruction) → slice_get insts k ≡ Some i → is_one_of shaping_kinds (opcode i) ≡ true → keep i ≡ true
 
--- types are kept, and so is what makes a constant the size of workgroups
-abbrev pub KeepsTypes : (keep : Instruction → Bool) → List Instruction → Type 0
-KeepsTypes keep insts = (k : ℕ) (i : Instruction) → slice_get insts k ≡ Some i → is_one_of type_kinds (opcode i) ≡ true → keep i ≡ true
-
+-- what makes a constant the size of workgroups is kept
 abbrev pub KeepsSizes : (keep : Instruction → Bool) → List Instruction → Type 0
 KeepsSizes keep insts = (k : ℕ) (i : Instruction) → slice_get insts k ≡ Some i → is_workgroup_size i ≡ true → keep i ≡ true
 

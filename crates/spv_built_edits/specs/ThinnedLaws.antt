@@ -13,13 +13,13 @@ use Rattle.spv_norm.specs.Norm.{outside}
 use Rattle.spv_spelling.specs.Whole.{AreInstructions}
 use Rattle.spv_thinned.specs.Thinned.{IsThinned}
 use Rattle.spv_built.specs.Built.{AreBuilt}
-use Rattle.spv_built_edits.specs.Thinned.{AreThinned, IsNoOpening, KeepsShape, KeepsSizes, KeepsTypes}
+use Rattle.spv_built_edits.specs.Thinned.{AreThinned, IsNoOpening, KeepsShape, KeepsSizes}
 
 -- of its functions without the steps that were dropped, if these are what stands behind the instructions outside functions
 abbrev pub ThinnedIsBuilt : Type 0
 ThinnedIsBuilt =
     (gone : ℕ → Bool) (keep : Instruction → Bool) (before after : List Instruction) (fs gs : List Function) → AreInstructions before → AreBuilt before fs
-    → IsThinned gone keep before after → KeepsShape keep before → KeepsTypes keep before → KeepsSizes keep before
+    → IsThinned gone keep before after → KeepsShape keep before → KeepsSizes keep before
     → words_of after ≡ words_of (outside after) ++ flat_map listed gs → AreThinned gone fs gs
     → AreBuilt after gs
 

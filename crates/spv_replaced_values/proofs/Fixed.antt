@@ -56,24 +56,24 @@ module _ (insts : List Instruction) where
   Replaces = ReplacesWords insts
 
   -- what stands for a first word, and for those behind it
-  record Behind (role : Role) (roles : List Role) (word : ℕ) (words others : List ℕ) : Type 0 where
-    other : ℕ
-    more : List ℕ
-    is : others ≡ other ∷ more
-    stands : may_stand insts role word other ≡ true
-    rest : Replaces roles words more
+  pub record Behind (role : Role) (roles : List Role) (word : ℕ) (words others : List ℕ) : Type 0 where
+    pub other : ℕ
+    pub more : List ℕ
+    pub is : others ≡ other ∷ more
+    pub stands : may_stand insts role word other ≡ true
+    pub rest : Replaces roles words more
 
-  behind_word : (role : Role) (roles : List Role) (word : ℕ) (words others : List ℕ) → Replaces (role ∷ roles) (word ∷ words) others → Behind role roles word words others
+  pub behind_word : (role : Role) (roles : List Role) (word : ℕ) (words others : List ℕ) → Replaces (role ∷ roles) (word ∷ words) others → Behind role roles word words others
   behind_word role roles word words [] h = absurd h
   behind_word role roles word words (other ∷ more) h = record { other = other; more = more; is = refl; stands = h.0; rest = h.1 }
 
-  behind_front : (role : Role) (kinds : List Kind) (ws : List ℕ) (rs : List Role) (vs : List ℕ) → (f : Front role kinds ws rs) → Replaces rs ws vs
+  pub behind_front : (role : Role) (kinds : List Kind) (ws : List ℕ) (rs : List Role) (vs : List ℕ) → (f : Front role kinds ws rs) → Replaces rs ws vs
       → Behind role f.others f.word f.rest vs
   behind_front role kinds ws rs vs f h =
       behind_word role f.others f.word f.rest vs
       (subst (λ (rs : List Role). Replaces rs (f.word ∷ f.rest) vs) f.parts_are (subst (λ (ws : List ℕ). Replaces rs ws vs) f.words_are h))
 
-  stays : (role : Role) (word other : ℕ) → is_used_id role ≡ false → may_stand insts role word other ≡ true → other ≡ word
+  pub stays : (role : Role) (word other : ℕ) → is_used_id role ≡ false → may_stand insts role word other ≡ true → other ≡ word
   stays role word other fixed h =
       eqb-true other word (sym (ap (λ (b : Bool). cond b (stands_in insts word other) (other == word)) fixed) ∙ h)
 
@@ -132,7 +132,7 @@ module _ (insts : List Instruction) where
 
   -- ---- all words
 
-  may_near : (b : Bool) (word other : ℕ) → cond b (stands_in insts word other) (other == word) ≡ true → stands_in insts word other ≡ true
+  pub may_near : (b : Bool) (word other : ℕ) → cond b (stands_in insts word other) (other == word) ≡ true → stands_in insts word other ≡ true
   may_near true word other h = h
   may_near false word other h = near_same insts word other (eqb-true other word h)
 
@@ -177,7 +177,7 @@ module _ (c : Case) where
   pub near_words : NearAll c.insts c.words c.others
   near_words = near_all c.insts (roles (as_instruction c.words)) c.words c.others c.replaces.replaced
 
-  first_stays : (words : List ℕ) (rs : List Role) → roles_of words ≡ Ok rs → ReplacesWords c.insts rs words c.others → slice_index c.others 0 ≡ slice_index words 0
+  pub first_stays : (words : List ℕ) (rs : List Role) → roles_of words ≡ Ok rs → ReplacesWords c.insts rs words c.others → slice_index c.others 0 ≡ slice_index words 0
   first_stays [] rs e h = absurd (some_words rs e)
   first_stays (w ∷ ws) rs e h =
       let f = first_part w ws rs e in

@@ -55,7 +55,6 @@ use Rattle.spv_built_edits.proofs.Kept.{outside_is_thinned}
 use Rattle.spv_built_edits.proofs.Parameters.{no_parameters_behind}
 use Rattle.spv_built_edits.proofs.KeptSteps.{OfStep, shown_steps, steps_back}
 use Rattle.spv_built_edits.proofs.ThinnedWhole.{thinned_is_built}
-use Rattle.spv_typed_edits.specs.Edits.{type_kinds}
 use Rattle.spv_typed_edits.proofs.Zero.{undefined}
 use Rattle.spv_stripped.specs.Laws.{StrippedFormIsModule, StrippedIsModule}
 use Rattle.spv_stripped.specs.Strip.{stays, stripped, stripped_insts}
@@ -107,9 +106,6 @@ rules_of bound (i ∷ is) h = (h.0.rules, rules_of bound is h.1)
 
 shape_stays : (i : Instruction) → is_one_of shaping_kinds (opcode i) ≡ true → stays i ≡ true
 shape_stays i h = stays_where (is_one_of shaping_kinds) (refl, (refl, (refl, (refl, (refl, (refl, (refl, (refl, (refl, tt))))))))) i h
-
-type_stays : (i : Instruction) → is_one_of type_kinds (opcode i) ≡ true → stays i ≡ true
-type_stays i h = stays_where (is_one_of type_kinds) (refl, (refl, (refl, (refl, (refl, (refl, (refl, (refl, (refl, tt))))))))) i h
 
 size_stays : (i : Instruction) → is_workgroup_size i ≡ true → stays i ≡ true
 size_stays i h =
@@ -264,7 +260,7 @@ module _ (code : Code) (bodies : List Body) (m : IsModule code) (parsed : ArePar
 
   placed : AreBuilt after fs
   placed =
-      thinned_is_built gone stays before after fs fs formed b thin (λ k i at h. shape_stays i h) (λ k i at h. type_stays i h) (λ k i at h. size_stays i h) after_lines
+      thinned_is_built gone stays before after fs fs formed b thin (λ k i at h. shape_stays i h) (λ k i at h. size_stays i h) after_lines
       (all_functions fs b.functions listed_lines)
 
   are_before : Are code.header.bound before
